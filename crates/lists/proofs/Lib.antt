@@ -1,0 +1,3 @@
+pub mod Weights
+pub mod Totals
+pub mod Places
