@@ -14,6 +14,10 @@ pub record Rule : Type 0 where
   pub slot : ℕ → ℕ → ℕ
   pub next : ℕ → ℕ → ℕ
 
+-- A rule's two functions together.
+abbrev pub ruleOf : (ℕ → ℕ → ℕ) → (ℕ → ℕ → ℕ) → Rule
+ruleOf slot next = record { slot = slot; next = next }
+
 -- Where the pages are. The top is the pages of its slots, the lowest slot first; its pages are used unnoticed.
 -- The bottom is the pages that left the top, the newest first. The rule is in the state that it tells.
 pub record Order : Type 0 where

@@ -1,0 +1,6 @@
+pub mod Chain
+pub mod Left
+pub mod Segs
+pub mod Holds
+pub mod HeldIn
+pub mod Writes

@@ -1,0 +1,6 @@
+use mathlib.Core.Path.{refl}
+use Rattle.order.proofs.Standing.{stands-fresh}
+use Rattle.order.proofs.parts.TwoParts.make.Needs as need
+
+pub returns : need.returns
+returns g c = record { slots = refl; stands = λ t u. stands-fresh (g .R·TopRule .told) _ t refl (c .empty .ensures _ _ _) u }
