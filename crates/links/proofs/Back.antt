@@ -1,13 +1,13 @@
 -- The list followed from its last: the exact reverse.
 use mathlib.Core.Path.{_≡_, refl, sym, _∙_, ap}
-use mathlib.Core.List.{List, [], _∷_, _++_, reverse, reverseAux}
-use Prim.Native.Nat.{ℕ, _<_}
+use mathlib.Core.List.{List, [], _∷_, reverse, reverseAux}
+use Prim.Native.Nat.{ℕ}
 use native.Mathlib.Omega.{arith}
 use lib.ListN.{getD}
 use Rattle.std.specs.declared.option.Option.{Option}
 use Rattle.std.specs.declared.option.Option.the-variants.{Some, None}
 use Rattle.links.specs.Chain.{Chain}
-use Rattle.links.specs.Segs.{headOf, endOf, Seg}
+use Rattle.links.specs.Segs.{endOf, Seg}
 use Rattle.links.specs.Holds.{Holds}
 
 -- Links give one list at most.

@@ -1,19 +1,20 @@
 -- What follows from links that hold a list.
-use mathlib.Core.Path.{_≡_, refl, sym, _∙_, ap}
+use mathlib.Core.Path.{_≡_, refl}
 use mathlib.Core.List.{List, [], _∷_, _++_}
-use mathlib.Core.Bool.{true, false, cond}
-use Prim.Native.Nat.{ℕ, zero, suc, _+_, _<_, _≤_}
+use mathlib.Core.Logic.{inl, inr}
+use mathlib.Core.Bool.{true}
+use Prim.Native.Nat.{ℕ, zero, suc, _<_, _≤_}
 use native.Mathlib.Omega.{arith}
-use lib.Dec.{eqb}
 use lib.ListN.{length, getD}
 use Rattle.std.specs.declared.option.Option.{Option}
 use Rattle.std.specs.declared.option.Option.the-variants.{Some, None}
+use Rattle.std.proofs.shelf.Tests.{cases-lt, eq-eqb}
 use Rattle.lists.specs.Weights.{weigh, one, occ, Once, total}
 use Rattle.lists.specs.Places.{without}
-use Rattle.lists.proofs.Weights.{Split, split-at}
+use Rattle.lists.proofs.Weights.{split-at, occ-without}
 use Rattle.lists.proofs.Totals.{total-le, total-occ}
 use Rattle.links.specs.Chain.{Chain}
-use Rattle.links.specs.Segs.{headOf, endOf, Seg}
+use Rattle.links.specs.Segs.{headOf, Seg}
 use Rattle.links.specs.Holds.{Holds}
 use Rattle.links.proofs.Segs.{seg-below}
 
@@ -48,6 +49,17 @@ pigeons n bs o below = omega (arith, total-occ (λ q. true) n bs below, total-le
 -- A list that links hold is no longer than the table.
 pub holds-fits : (ns ps : List (Option ℕ)) (n : ℕ) (first last : Option ℕ) (bs : List ℕ) → Holds ns ps n first last bs → length bs ≤ n
 holds-fits ns ps n first last bs h = pigeons n bs (h .once) (holds-below ns ps n first last bs h)
+
+-- A number in a list that links hold is below n.
+pub holds-member : (ns ps : List (Option ℕ)) (n : ℕ) (first last : Option ℕ) (p : ℕ) (bs : List ℕ) → Holds ns ps n first last bs → 0 < occ p bs → p < n
+holds-member ns ps n first last p bs h y = elim (cases-lt p n) [
+  | inl lt ↦ lt
+  | inr le ↦ absurd (omega (arith, holds-below ns ps n first last bs h p le))
+]
+
+-- Once p is taken out of a list that links hold, it stands there no more.
+pub holds-gone : (ns ps : List (Option ℕ)) (n : ℕ) (first last : Option ℕ) (p : ℕ) (bs : List ℕ) → Holds ns ps n first last bs → occ p (without p bs) ≡ 0
+holds-gone ns ps n first last p bs h = rw (eq-eqb p p refl) at (occ-without p p bs (h .once p))
 
 -- What a removal promises of each split, said of the list without p.
 pub unlinked : (ns ps ns′ ps′ : List (Option ℕ)) (n n′ : ℕ) (first last first′ last′ : Option ℕ) (p : ℕ) (bs : List ℕ) → ((xs ys : List ℕ) → Holds ns ps n first last (xs ++ (p ∷ ys)) → Holds ns′ ps′ n′ first′ last′ (xs ++ ys)) → Holds ns ps n first last bs → 0 < occ p bs → Holds ns′ ps′ n′ first′ last′ (without p bs)

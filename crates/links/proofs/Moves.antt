@@ -1,22 +1,22 @@
 -- What the writes of a removal and of a push do to a list that links hold.
 use mathlib.Core.Path.{_≡_, refl, sym, _∙_, ap}
 use mathlib.Core.List.{List, [], _∷_, _++_, map}
-use mathlib.Core.Logic.{_⊎_, inl, inr, _≢_}
-use Prim.Native.Nat.{ℕ, zero, suc, _+_, _<_, _≤_}
+use mathlib.Core.Logic.{inl, inr}
+use Prim.Native.Nat.{ℕ, _+_, _<_, _≤_}
 use native.Mathlib.Omega.{arith}
 use lib.Dec.{eqb}
 use lib.ListN.{length, getD, set}
-use lib.Seq.{getD-set-same, getD-set-other}
+use lib.Seq.{getD-set-same}
 use Rattle.std.specs.declared.option.Option.{Option}
 use Rattle.std.specs.declared.option.Option.the-variants.{Some, None}
 use Rattle.std.proofs.shelf.Lists.{length-set, length-map, getD-map}
-use Rattle.lists.specs.Weights.{weigh, one, occ, Once}
+use Rattle.lists.specs.Weights.{one, occ, Once}
 use Rattle.lists.proofs.Weights.{eqb-cases, weigh-append}
 use Rattle.links.specs.Segs.{headOf, endOf, Seg}
 use Rattle.links.specs.Holds.{Holds}
 use Rattle.links.specs.Writes.{setLink, endLink}
 use Rattle.links.proofs.Kept.{map-wrote}
-use Rattle.links.proofs.Segs.{occ-here, once-head, head-occ, last-occ, end-append, endLink-end, setLink-other, seg-left, seg-right, seg-join, seg-next-kept, seg-prev-kept, seg-new-end, seg-new-start}
+use Rattle.links.proofs.Segs.{head-occ, last-occ, end-append, endLink-end, setLink-other, seg-left, seg-right, seg-join, seg-next-kept, seg-prev-kept, seg-new-end, seg-new-start}
 
 -- The same list, where each part is known under another name.
 pub holds-as : {ns ps ns′ ps′ : List (Option ℕ)} {n n′ : ℕ} {first last first′ last′ : Option ℕ} {bs : List ℕ} → ns′ ≡ ns → ps′ ≡ ps → n′ ≡ n → first′ ≡ first → last′ ≡ last → Holds ns ps n first last bs → Holds ns′ ps′ n′ first′ last′ bs

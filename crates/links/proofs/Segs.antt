@@ -1,18 +1,16 @@
 -- Laws of a list's parts: they split and join at ++, and writes elsewhere keep them.
 use mathlib.Core.Path.{_≡_, refl, sym, _∙_, ap}
 use mathlib.Core.List.{List, [], _∷_, _++_}
-use mathlib.Core.Logic.{_⊎_, inl, inr, _≢_}
-use mathlib.Core.Bool.{true, false, cond}
-use Prim.Native.Nat.{ℕ, zero, suc, _+_, _<_, _≤_}
+use mathlib.Core.Logic.{inl, inr, _≢_}
+use Prim.Native.Nat.{ℕ, _+_, _<_, _≤_}
 use native.Mathlib.Omega.{arith}
-use lib.Dec.{eqb}
-use lib.ListN.{length, getD, set}
+use lib.ListN.{length, getD}
 use lib.Seq.{getD-set-same, getD-set-other}
 use Rattle.std.specs.declared.option.Option.{Option}
 use Rattle.std.specs.declared.option.Option.the-variants.{Some, None}
 use Rattle.std.proofs.shelf.Tests.{eq-eqb, ne-eqb}
-use Rattle.lists.specs.Weights.{weigh, one, occ, Once}
-use Rattle.lists.proofs.Weights.{eqb-cases, weigh-append}
+use Rattle.lists.specs.Weights.{one, occ, Once}
+use Rattle.lists.proofs.Weights.{eqb-cases}
 use Rattle.links.specs.Segs.{headOf, endOf, Seg}
 use Rattle.links.specs.Writes.{setLink, endLink}
 

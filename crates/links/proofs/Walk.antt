@@ -1,11 +1,10 @@
 -- One step of a walk along the links, and its ends.
 use mathlib.Core.Path.{_≡_, refl, sym, _∙_, ap}
 use mathlib.Core.List.{List, [], _∷_, map}
-use mathlib.Core.Logic.{_⊎_, inl, inr, _≢_}
-use mathlib.Core.Bool.{true, false, cond}
-use Prim.Native.Nat.{ℕ, zero, suc, _+_, _<_, _≤_}
+use mathlib.Core.Logic.{_≢_}
+use Prim.Native.Nat.{ℕ, zero, suc, _+_, _-_, _<_, _≤_}
+use native.Mathlib.Numerals.{add-one}
 use native.Mathlib.Omega.{arith}
-use lib.Dec.{eqb}
 use lib.ListN.{length, getD}
 use Rattle.std.specs.declared.option.Option.{Option}
 use Rattle.std.specs.declared.option.Option.the-variants.{Some, None}
@@ -13,11 +12,26 @@ use Rattle.std.proofs.shelf.Lists.{getD-map}
 use Rattle.std.proofs.shelf.Tests.{eq-eqb, ne-eqb}
 use Rattle.lists.specs.Places.{placeFrom, place}
 use Rattle.links.specs.Chain.{Chain}
+use Rattle.links.specs.Stepped.{stepped}
 use Rattle.links.specs.Left.{Left}
 
 -- A link read from a record of the table is that of the table's view.
 pub link-read : {X : Type 0} (f : X → Option ℕ) (t : List X) (b : ℕ) (x : X) (next : Option ℕ) → b < length t → x ≡ getD t b x → next ≡ f x → next ≡ getD (map f t) b None
 link-read f t b x next lt e to = to ∙ ap f e ∙ sym (getD-map f t b x None lt)
+
+-- One step more, from where the steps so far have led.
+stepped-suc : (links : List (Option ℕ)) (k : ℕ) (at : Option ℕ) (b : ℕ) → stepped links k at ≡ Some b → stepped links (suc k) at ≡ getD links b None
+stepped-suc links zero None b e = let z : _≡_ {A = ℕ} 0 1 = cc in absurd (omega arith)
+stepped-suc links zero (Some a) b e = let same : a ≡ b = cc in rw same
+stepped-suc links (suc k) None b e = let z : _≡_ {A = ℕ} 0 1 = cc in absurd (omega arith)
+stepped-suc links (suc k) (Some a) b e = stepped-suc links k (getD links a None) b e
+
+pub stepped-more : (links : List (Option ℕ)) (k : ℕ) (at here next : Option ℕ) (b : ℕ) → stepped links k at ≡ here → here ≡ Some b → next ≡ getD links b None → stepped links (k + 1) at ≡ next
+stepped-more links k at here next b e h to = rw add-one (stepped-suc links k at b (e ∙ h) ∙ sym to)
+
+-- The steps before the last counted one led to p.
+pub stepped-met : (links : List (Option ℕ)) (k : ℕ) (at here : Option ℕ) (p b : ℕ) → stepped links k at ≡ here → here ≡ Some b → b ≡ p → stepped links (k + 1 - 1) at ≡ Some p
+stepped-met links k at here p b e h same = let back : k + 1 - 1 ≡ k = omega arith in rw back (e ∙ h ∙ ap Some same)
 
 module _ (links : List (Option ℕ)) (n p : ℕ) where
   -- Where a walk begins, the whole list is left.

@@ -1,4 +1,5 @@
 pub mod Chain
+pub mod Stepped
 pub mod Left
 pub mod Segs
 pub mod Holds

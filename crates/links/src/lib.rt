@@ -5,12 +5,14 @@
 // damaged leads to a wrong list at worst.
 ghost use mathlib.Core.Path.{_≡_};
 ghost use mathlib.Core.List.{List, [], _∷_, _++_, map};
-ghost use Prim.Native.Nat.{ℕ, _<_, _≤_};
+ghost use Prim.Native.Nat.{ℕ, _-_, _<_, _≤_};
 ghost use lib.ListN.{length};
 ghost use Rattle.std.specs.declared.option.Option.{Option};
+ghost use Rattle.std.specs.declared.option.Option.the-variants.{Some, None};
 ghost use Rattle.lists.specs.Weights.{occ};
 ghost use Rattle.lists.specs.Places.{place};
 ghost use Rattle.links.specs.Chain.{Chain};
+ghost use Rattle.links.specs.Stepped.{stepped};
 ghost use Rattle.links.specs.Holds.{Holds};
 ghost use Rattle.links.specs.HeldIn.{HeldIn};
 ghost use Rattle.links.specs.Writes.{setLink, endLink};
@@ -23,6 +25,10 @@ pub trait Linked {
 
     // The record with neither link: everything but its links.
     ghost bare: { Self → Self };
+
+    law none: { (x : Self) → (after (bare x) ≡ None) × (before (bare x) ≡ None) };
+
+    law whole: { (x y : Self) → after x ≡ after y → before x ≡ before y → bare x ≡ bare y → x ≡ y };
 
     fn next(&self) -> Option<usize>
         ensures { λ r. ⌜ r ≡ after (now (self .entry)) ⌝ };
@@ -43,9 +49,11 @@ pub trait Linked {
 
 // The place of `at` in the list that begins at `first`, counted from 1, and 0 where it is not in it.
 //
-// It follows the links and takes no more steps than the table has records.
+// It follows the links and takes no more steps than the table has records. Whatever the links are,
+// a place that it gives is one at which they lead to `at`.
 pub fn depth<R: Linked>(table: &[R], first: Option<usize>, at: usize) -> usize
     ensures bound { λ r. ⌜ r ≤ length (now (table .entry)) ⌝ }
+    ensures reached { λ r. ⌜ (0 < r → stepped (map (R·Linked .after) (now (table .entry))) (r - 1) first ≡ Some at) ⌝ }
     ensures place { λ r. ⌜ ((bs : List ℕ) → Chain (map (R·Linked .after) (now (table .entry))) (length (now (table .entry))) first bs → length bs ≤ length (now (table .entry)) → r ≡ place at bs) ⌝ }
 {
     let mut here = first;
@@ -119,10 +127,11 @@ impl Ends {
         }
     }
 
-    // Takes `p` out of the list.
+    // Takes `p` out of the list. A `p` past the table changes nothing.
     pub fn unlink<R: Linked>(&mut self, table: &mut [R], p: usize)
         ensures list { λ _. ⌜ ((xs ys : List ℕ) → HeldIn (R·Linked .after) (R·Linked .before) (now (table .entry)) (now (self .entry)) (xs ++ (p ∷ ys)) → HeldIn (R·Linked .after) (R·Linked .before) (now (table .exit)) (now (self .exit)) (xs ++ ys)) ⌝ }
         ensures bare { λ _. ⌜ map (R·Linked .bare) (now (table .exit)) ≡ map (R·Linked .bare) (now (table .entry)) ⌝ }
+        ensures past { λ _. ⌜ (length (now (table .entry)) ≤ p → (now (table .exit) ≡ now (table .entry)) × (now (self .exit) ≡ now (self .entry))) ⌝ }
     {
         if p >= table.len() {
             return;
@@ -133,10 +142,11 @@ impl Ends {
         self.precede(table, after, before);
     }
 
-    // Puts `p`, which is not in the list, in front of it.
+    // Puts `p`, which is not in the list, in front of it. A `p` past the table changes nothing.
     pub fn push_front<R: Linked>(&mut self, table: &mut [R], p: usize)
         ensures list { λ _. ⌜ ((bs : List ℕ) → HeldIn (R·Linked .after) (R·Linked .before) (now (table .entry)) (now (self .entry)) bs → p < length (now (table .entry)) → occ p bs ≡ 0 → HeldIn (R·Linked .after) (R·Linked .before) (now (table .exit)) (now (self .exit)) (p ∷ bs)) ⌝ }
         ensures bare { λ _. ⌜ map (R·Linked .bare) (now (table .exit)) ≡ map (R·Linked .bare) (now (table .entry)) ⌝ }
+        ensures past { λ _. ⌜ (length (now (table .entry)) ≤ p → (now (table .exit) ≡ now (table .entry)) × (now (self .exit) ≡ now (self .entry))) ⌝ }
     {
         if p >= table.len() {
             return;

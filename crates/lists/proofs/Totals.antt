@@ -71,3 +71,11 @@ total-occ d n es h = total-same (λ q. cond (d q) (occ q es) 0) (λ q. occ q es 
 pub total-wrap : (f g : ℕ → ℕ) (n : ℕ) → ((q : ℕ) → q < n → g q ≡ f q % 4294967296) → total n g % 4294967296 ≡ total n f % 4294967296
 total-wrap f g zero e = refl
 total-wrap f g (suc n) e = omega (arith, total-wrap f g n (λ q h. e q (omega arith)), e n (omega arith))
+
+-- A sum that ends where nothing counts any more.
+pub total-beyond : (f : ℕ → ℕ) (m n : ℕ) → m ≤ n → ((q : ℕ) → m ≤ q → q < n → f q ≡ 0) → total n f ≡ total m f
+total-beyond f m zero h e = let z : 0 ≡ m = omega arith in ap (λ i. total i f) z
+total-beyond f m (suc n) h e = elim (cases-lt m (suc n)) [
+  | inl y ↦ omega (arith, total-beyond f m n (omega arith) (λ q a b. e q a (omega arith)), e n (omega arith) (omega arith))
+  | inr le ↦ let z : suc n ≡ m = omega arith in ap (λ i. total i f) z
+]

@@ -7,6 +7,7 @@ use Prim.Native.Nat.{ℕ, zero, suc, _+_, _≤_, _<_, zero-le}
 use native.Mathlib.Omega.{arith}
 use lib.Dec.{eqb, ltb}
 use lib.ListN.{length, getD, set}
+use Rattle.std.specs.Options.{valueOr}
 use Rattle.std.proofs.shelf.Lists.{length-append, length-set}
 use Rattle.std.proofs.shelf.Tests.{cases-lt, lt-ltb, le-ltb, eq-eqb, ne-eqb}
 use Rattle.lists.specs.Weights.{weigh, one, occ, has}
@@ -73,3 +74,34 @@ module _ (n k p : ℕ) (o : Order) (s : Sound n k o) (low : p < n) where
       | inr m ↦ rw (m .1) (sound-exchanged r slots (h .0) (m .0))
     ])
   ]
+
+-- The used page is in the top after its use, and so not in the bottom.
+pub used-in : (n k p : ℕ) (o : Order) (r : Rule) → r .slot (o .told) k < k → 0 < occ p (used r k p o .top)
+used-in n k p o r slots = elim (ltb-cases 0 (occ p (o .top))) [
+  | inl h ↦ rw (h .1) (h .0)
+  | inr h ↦ rw (h .1) (elim (ltb-cases (length (o .top)) k) [
+    | inl y ↦ rw (y .1) (omega (arith, weigh-push (λ x. one (eqb x p)) (o .top) p, self p))
+    | inr m ↦ rw (m .1) (omega (arith, weigh-set (λ x. one (eqb x p)) (o .top) (r .slot (o .told) k) p (omega (arith, slots, m .0)), self p, other (m .0) (h .0)))
+  ])
+] where
+  self : (x : ℕ) → one (eqb x x) ≡ 1
+  self x = rw (eq-eqb x x refl)
+
+  other : k ≤ length (o .top) → occ p (o .top) ≤ 0 → one (eqb (getD (o .top) (r .slot (o .told) k) 0) p) ≡ 0
+  other m z = elim (eqb-cases (getD (o .top) (r .slot (o .told) k) 0) p) [
+    | inl e ↦ absurd (omega (arith, rw (e .0) at (slot-in (o .top) (r .slot (o .told) k) (omega (arith, slots, m)))))
+    | inr d ↦ rw (d .1)
+  ]
+
+pub used-out : (n k p : ℕ) (o : Order) (r : Rule) → Sound n k o → p < n → r .slot (o .told) k < k → occ p (used r k p o .bottom) ≡ 0
+used-out n k p o r s low slots = only-bottom (sound-used n k p o s low r slots) p (used-in n k p o r slots)
+
+-- The depth that is found, and 0 for a new page, is the place in the bottom.
+pub depth-place : (n k p : ℕ) (o : Order) → Sound n k o → valueOr (depthOf p o) 0 ≡ place p (o .bottom)
+depth-place n k p o s = elim (ltb-cases 0 (occ p (o .top))) [
+  | inl h ↦ rw (h .1) (sym (place-none 0 p (o .bottom) (only-bottom s p (h .0))))
+  | inr h ↦ rw (h .1) (elim (ltb-cases 0 (occ p (o .bottom))) [
+    | inl y ↦ rw (y .1) refl
+    | inr m ↦ rw (m .1) (sym (place-none 0 p (o .bottom) (omega (arith, m .0))))
+  ])
+]

@@ -1,5 +1,5 @@
 -- The record of p gets its two links, and the old first one links back to it.
-use mathlib.Core.Path.{_≡_, refl, _∙_}
+use mathlib.Core.Path.{_≡_, _∙_}
 use native.Mathlib.Omega.{arith}
 use lib.ListN.{length}
 use Rattle.std.proofs.shelf.Lists.{length-set}
@@ -17,4 +17,5 @@ returns g c =
           len (c .set-prev .ensures .after ∙ c .set-next .ensures .after) (c .set-prev .ensures .before)
           (c .precede .ensures .after) (c .precede .ensures .before) (c .precede .ensures .last);
       bare = c .precede .ensures .bare ∙ map-kept (g .R·Linked .bare) (c .args .table .now) (c .args .p) (c .set-prev .last .self) _ (c .if-p-table .left) (c .set-prev .ensures .bare ∙ c .set-next .ensures .bare);
+      past = λ h. absurd (omega arith);
     }

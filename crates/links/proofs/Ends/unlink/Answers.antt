@@ -9,6 +9,7 @@ pub returns-then-p-table : need.returns-then-p-table
 returns-then-p-table g c = record {
   list = λ xs ys h. removes-none _ _ _ _ _ (c .args .p) (c .if-p-table .taken) xs ys h;
   bare = refl;
+  past = λ h. (refl, refl);
 }
 
 pub returns : need.returns
@@ -22,4 +23,5 @@ returns g c =
           (c .follow .ensures .after) (c .follow .ensures .before) (c .follow .ensures .first) (c .follow .ensures .last)
           (c .precede .ensures .after) (c .precede .ensures .before) (c .precede .ensures .first) (c .precede .ensures .last);
       bare = c .precede .ensures .bare ∙ c .follow .ensures .bare;
+      past = λ h. absurd (omega arith);
     }
