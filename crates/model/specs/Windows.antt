@@ -1,3 +1,4 @@
+use mathlib.Core.Bool.{Bool, false, not}
 use mathlib.Core.List.{List, _∷_}
 use Prim.Native.Nat.{ℕ, max}
 use lib.Dec.{ltb}
@@ -29,6 +30,11 @@ isOpen (Some m) = 1
 abbrev pub over : ℕ → Option ℕ → ℕ
 over l None = 0
 over l (Some m) = one (ltb l m)
+
+-- Whether a window is open with a mark of at most l.
+abbrev pub shallow : ℕ → Option ℕ → Bool
+shallow l None = false
+shallow l (Some m) = not (ltb l m)
 
 -- A list of depths with one more at its head, where there is one.
 abbrev pub noted : Option ℕ → List ℕ → List ℕ

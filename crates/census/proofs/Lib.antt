@@ -1,0 +1,9 @@
+pub mod Sums
+pub mod Columns
+pub mod Tables
+pub mod Steps
+pub mod Closing
+pub mod Fronts
+pub mod Opened
+pub mod Sinking
+pub mod Saved

@@ -1,0 +1,6 @@
+pub mod Numbers
+pub mod Refusals
+pub mod Columns
+pub mod SameBut
+pub mod Means
+pub mod Sinking
