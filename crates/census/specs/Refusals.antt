@@ -3,6 +3,8 @@ use Prim.Native.Nat.{ℕ, _+_, _*_}
 use lib.Dec.{eqb, ltb}
 use Rattle.std.specs.declared.result.Result.{Result}
 use Rattle.std.specs.declared.result.Result.the-variants.{Ok, Err}
+use Rattle.model.specs.declared.Call.{Call}
+use Rattle.model.specs.declared.Call.the-variants.{Use, Settle}
 use Rattle.census.specs.declared.refusal.CensusRefusal.{CensusRefusal}
 use Rattle.census.specs.declared.refusal.CensusRefusal.the-variants.{PageCount, TopSize, ShortTable, NoSuchPage, NoSuchRow}
 
@@ -23,6 +25,11 @@ mayOpen n k records places =
 abbrev pub mayShow : ℕ → ℕ → ℕ → ℕ → Result (Unit {0}) CensusRefusal
 mayShow n records places page =
     cond (ltb records n || ltb places (needed n)) (Err ShortTable) (cond (ltb page n) (Ok tt) (Err NoSuchPage))
+
+-- A shown call of either kind.
+abbrev pub mayTake : ℕ → ℕ → ℕ → Call → Result (Unit {0}) CensusRefusal
+mayTake n records places (Use kind page) = mayShow n records places page
+mayTake n records places Settle = mayKeep n records places
 
 -- A row: the tables, then the bottom size.
 abbrev pub mayAsk : ℕ → ℕ → ℕ → ℕ → Result (Unit {0}) CensusRefusal

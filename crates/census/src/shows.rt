@@ -6,8 +6,8 @@ ghost use lib.ListN.{length, drop};
 ghost use Rattle.std.specs.Results.{isOk};
 ghost use Rattle.std.specs.declared.result.Result.the-variants.{Ok, Err};
 ghost use Rattle.model.specs.Order.{ruleOf};
-ghost use Rattle.model.specs.Ledger.{Ledger, shownRead, shownWrite, shownSettle, shownUse};
-ghost use Rattle.census.specs.Refusals.{mayKeep, mayShow, needed};
+ghost use Rattle.model.specs.Ledger.{Ledger, shownRead, shownWrite, shownSettle, shownUse, shown};
+ghost use Rattle.census.specs.Refusals.{mayKeep, mayShow, mayTake, needed};
 ghost use Rattle.census.specs.Means.{Means, Keeps};
 use super::checks::may_keep;
 use super::checks::may_show;
@@ -17,11 +17,19 @@ use super::state::Census;
 use super::windows::end_windows;
 use super::windows::raise;
 use super::windows::set_mark;
+use model::Call;
 use model::UseKind;
 use order::PageRecord;
 use rules::TopRule;
 
 impl<R: TopRule> Census<R> {
+    // How many pages there are.
+    pub fn pages(&self) -> usize
+        ensures { λ r. ⌜ r ≡ now (self .entry) .pages ⌝ }
+    {
+        self.pages
+    }
+
     // A read, in tables that are as long as the census needs.
     fn read_seen(&mut self, table: &mut [PageRecord], counts: &mut [u32], page: usize)
         requires within { ⌜ page < length (now table) ⌝ }
@@ -113,5 +121,24 @@ impl<R: TopRule> Census<R> {
         self.settled = self.settled.wrapping_add(ended);
         self.calls = self.calls.wrapping_add(1);
         Ok(())
+    }
+
+    // Shows the census a call, of whichever kind.
+    pub fn show(
+        &mut self,
+        table: &mut [PageRecord],
+        counts: &mut [u32],
+        call: Call,
+    ) -> Result<(), CensusRefusal>
+        ensures answer { λ r. ⌜ r ≡ mayTake (now (self .entry) .pages) (length (now (table .entry))) (length (now (counts .entry))) call ⌝ }
+        ensures refused { λ r. ⌜ (isOk r ≡ false → (now (self .exit) ≡ now (self .entry)) × (now (table .exit) ≡ now (table .entry)) × (now (counts .exit) ≡ now (counts .entry))) ⌝ }
+        ensures same { λ _. ⌜ (now (self .exit) .pages ≡ now (self .entry) .pages) × (now (self .exit) .parts .slots ≡ now (self .entry) .parts .slots) ⌝ }
+        ensures rest { λ _. ⌜ (drop (now (self .entry) .pages) (now (table .exit)) ≡ drop (now (self .entry) .pages) (now (table .entry))) × (drop (needed (now (self .entry) .pages)) (now (counts .exit)) ≡ drop (needed (now (self .entry) .pages)) (now (counts .entry))) ⌝ }
+        ensures step { λ r. ⌜ ((b : Ledger) → Keeps (R·TopRule .told) (now (self .entry)) (now (table .entry)) (now (counts .entry)) b → r ≡ Ok tt → Keeps (R·TopRule .told) (now (self .exit)) (now (table .exit)) (now (counts .exit)) (shown (ruleOf (R·TopRule .slot) (R·TopRule .next)) (now (self .entry) .pages) (now (self .entry) .parts .slots) b call)) ⌝ }
+    {
+        match call {
+            Call::Use(kind, page) => self.show_use(table, counts, kind, page),
+            Call::Settle => self.show_settle(table, counts),
+        }
     }
 }

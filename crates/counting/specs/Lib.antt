@@ -1,0 +1,4 @@
+pub mod Calls
+pub mod Under
+pub mod Counted
+pub mod Whole

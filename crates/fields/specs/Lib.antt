@@ -1,0 +1,4 @@
+pub mod Problems
+pub mod Numbers
+pub mod Places
+pub mod Justified

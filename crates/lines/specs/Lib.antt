@@ -1,0 +1,6 @@
+pub mod Problems
+pub mod Parts
+pub mod Cuts
+pub mod Headers
+pub mod Calls
+pub mod Fit

@@ -1,0 +1,4 @@
+pub mod Tells
+pub mod Passes
+pub mod Whole
+pub mod Recorded
