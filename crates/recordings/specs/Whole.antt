@@ -49,13 +49,15 @@ abbrev pub fitted : ℕ → Result Recording RunFault → Result Summary RunFaul
 fitted room (Ok r) = cond (ltb room (length (r .calls))) (Err TableShort) (Ok (summary-of r))
 fitted room (Err e) = Err e
 
+-- What a reading of some bytes answers, after everything that a check refuses.
 abbrev pub read-recording : List ℕ → ℕ → Result Summary RunFault
 read-recording bs room = fitted room (calls-of bs)
 
--- What the table holds after a reading: the calls, and then what it held there; a refusal leaves it.
+-- A table that a recording is read into: the calls, and then what it held there; a refusal leaves it.
 abbrev pub filled : List CallRecord → Result Recording RunFault → List CallRecord
 filled table (Ok r) = cond (ltb (length table) (length (r .calls))) table (put-first (r .calls) table)
 filled table (Err e) = table
 
+-- What the table holds after a reading of some bytes.
 abbrev pub table-after : List ℕ → List CallRecord → List CallRecord
 table-after bs table = filled table (calls-of bs)

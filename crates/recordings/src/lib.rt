@@ -125,7 +125,7 @@ fn read_first(bytes: &[u8]) -> Result<Header, LineFault>
     })
 }
 
-// What stands after line 1.
+// What stands after line 1, where the calls are; nothing where no byte 10 ends that line.
 pub fn after_header<'a>(bytes: &'a [u8]) -> &'a [u8]
     ensures { λ r. ⌜ now r ≡ later-lines (now (bytes .entry)) ⌝ }
 {
@@ -197,7 +197,7 @@ fn summed(bytes: &[u8]) -> Result<Summary, RunFault>
     Ok(Summary { header, calls })
 }
 
-// Checks a recording to its end.
+// Checks a recording to its end, and tells its header and how many calls it has.
 pub fn check(bytes: &[u8]) -> Result<Summary, RunFault>
     ensures told { λ r. ⌜ r ≡ check-recording (now (bytes .entry)) ⌝ }
     ensures exact { λ r. ⌜ Exact (now (bytes .entry)) r ⌝ }
