@@ -1,16 +1,16 @@
 // Reads a recording from standard input and prints its listing, or the fault that makes it unfit.
-use listings::Tables;
-use std::io;
+use std::error::AnyError;
 use std::io::Read;
+use std::io::Write;
 
 // One byte more than the longest recording: what is longer is unfit, whatever follows.
 const ENOUGH: u64 = 60_001;
 
-fn main(rt: LibcRuntime) -> io::Result<()> {
+fn main(rt: LibcRuntime) -> Result<(), AnyError> {
     let heap = rt.alloc();
-    let mut bytes = Vec::new(heap);
-    let mut input = rt.stdin().take(ENOUGH);
-    input.read_to_end(&mut bytes)?;
-    let mut tables = Tables::new(heap)?;
-    listings::write_listing(&mut rt.stdout(), &bytes, &mut tables.pages, &mut tables.counts)
+    let mut recording = Vec::new(heap);
+    rt.stdin().take(ENOUGH).read_to_end(&mut recording)?;
+    let text = listings::listing(heap, recording)?;
+    rt.stdout().write_all(&text)?;
+    Ok(())
 }

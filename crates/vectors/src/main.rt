@@ -1,7 +1,6 @@
 // Runs recordings whose listings an independent simulator gave, and counts how many listings and faults agree.
 //
 // Each folder of data/ holds NAME.rec, a recording, and NAME.txt, what the listing program must print for it.
-use listings::Tables;
 use std::alloc::AllocError;
 use std::alloc::Global;
 use std::error::AnyError;
@@ -25,16 +24,15 @@ fn answer_path(heap: Global, path: &str) -> Result<Option<String>, AllocError> {
 }
 
 // Whether the listing of one recording is the expected one.
-fn agrees(rt: &LibcRuntime, recording: &str, answer: &str, tables: &mut Tables) -> io::Result<bool> {
+fn agrees(rt: &LibcRuntime, recording: &str, answer: &str) -> io::Result<bool> {
     let bytes = fs::read(rt, recording)?;
     let expected = fs::read(rt, answer)?;
-    let mut listing = Vec::new(rt.alloc());
-    listings::write_listing(&mut listing, &bytes, &mut tables.pages, &mut tables.counts)?;
+    let listing = listings::listing(rt.alloc(), bytes)?;
     Ok(listing.as_slice() == expected.as_slice())
 }
 
 // Every recording of one folder.
-fn run_folder(rt: &LibcRuntime, folder: &str, tables: &mut Tables) -> io::Result<Agreement> {
+fn run_folder(rt: &LibcRuntime, folder: &str) -> io::Result<Agreement> {
     let mut found = Agreement {
         agree: 0,
         differ: 0,
@@ -45,7 +43,7 @@ fn run_folder(rt: &LibcRuntime, folder: &str, tables: &mut Tables) -> io::Result
         let Some(answer) = answer_path(rt.alloc(), path.as_str())? else {
             continue;
         };
-        if agrees(rt, path.as_str(), answer.as_str(), tables)? {
+        if agrees(rt, path.as_str(), answer.as_str())? {
             found.agree = found.agree.saturating_add(1);
         } else {
             found.differ = found.differ.saturating_add(1);
@@ -55,9 +53,8 @@ fn run_folder(rt: &LibcRuntime, folder: &str, tables: &mut Tables) -> io::Result
 }
 
 fn main(rt: LibcRuntime) -> Result<(), AnyError> {
-    let mut tables = Tables::new(rt.alloc())?;
     for folder in ["valid", "large", "damaged"] {
-        let Agreement { agree, differ } = run_folder(&rt, folder, &mut tables)?;
+        let Agreement { agree, differ } = run_folder(&rt, folder)?;
         println!(rt, "{folder}: {agree} agree, {differ} differ")?;
     }
     Ok(())
