@@ -23,13 +23,6 @@ use order::PageRecord;
 use rules::TopRule;
 
 impl<R: TopRule> Census<R> {
-    // How many pages there are.
-    pub fn pages(&self) -> usize
-        ensures { λ r. ⌜ r ≡ now (self .entry) .pages ⌝ }
-    {
-        self.pages
-    }
-
     // A read, in tables that are as long as the census needs.
     fn read_seen(&mut self, table: &mut [PageRecord], counts: &mut [u32], page: usize)
         requires within { ⌜ page < length (now table) ⌝ }

@@ -1,4 +1,5 @@
 // What the census keeps beside the caller's tables.
+ghost use mathlib.Core.Path.{_≡_};
 ghost use Prim.Native.Nat.{_<_, _≤_};
 use order::TwoParts;
 
@@ -17,4 +18,13 @@ pub struct Census<R> {
     // calls shown, settles included
     pub(crate) calls: u32,
     ghost sized: { (0 < pages) × (pages ≤ 512) },
+}
+
+impl<R> Census<R> {
+    // How many pages there are.
+    pub fn pages(&self) -> usize
+        ensures { λ r. ⌜ r ≡ now (self .entry) .pages ⌝ }
+    {
+        self.pages
+    }
 }

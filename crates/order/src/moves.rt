@@ -46,20 +46,6 @@ impl<R: TopRule> TwoParts<R> {
         }
     }
 
-    // How many slots the top has.
-    pub fn slots(&self) -> u32
-        ensures { λ r. ⌜ r ≡ now (self .entry) .slots ⌝ }
-    {
-        self.slots
-    }
-
-    // The newest page of the bottom.
-    pub fn newest(&self) -> Option<usize>
-        ensures { λ r. ⌜ r ≡ now (self .entry) .bottom .first ⌝ }
-    {
-        self.bottom.first
-    }
-
     // The depth of a page: 0 in the top, its place in the bottom from 1, none where it was never used.
     pub fn depth_of(&self, table: &[PageRecord], page: usize) -> Option<usize>
         ensures bound { λ r. ⌜ BySome r (Unit {0}) (λ d. d ≤ length (now (table .entry))) ⌝ }

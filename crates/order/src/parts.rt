@@ -1,4 +1,5 @@
 // The two parts of the order: the slots of the top, and the ends of the bottom in the page table.
+ghost use mathlib.Core.Path.{_≡_};
 ghost use Prim.Native.Nat.{_<_, _≤_};
 use links::Ends;
 
@@ -11,4 +12,20 @@ pub struct TwoParts<R> {
     pub(crate) filled: usize,
     pub(crate) bottom: Ends,
     ghost sized: { (0 < slots) × (slots ≤ 64) × (filled ≤ slots) },
+}
+
+impl<R> TwoParts<R> {
+    // How many slots the top has.
+    pub fn slots(&self) -> u32
+        ensures { λ r. ⌜ r ≡ now (self .entry) .slots ⌝ }
+    {
+        self.slots
+    }
+
+    // The newest page of the bottom.
+    pub fn newest(&self) -> Option<usize>
+        ensures { λ r. ⌜ r ≡ now (self .entry) .bottom .first ⌝ }
+    {
+        self.bottom.first
+    }
 }
