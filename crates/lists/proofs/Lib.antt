@@ -1,3 +1,4 @@
 pub mod Weights
 pub mod Totals
 pub mod Places
+pub mod Renamed
