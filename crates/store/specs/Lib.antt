@@ -1,0 +1,7 @@
+pub mod Meaning
+pub mod Refusals
+pub mod Uses
+pub mod Sized
+pub mod Memory
+pub mod Splices
+pub mod Copies
