@@ -1,2 +1,4 @@
-pub mod Pages
 pub mod Calls
+pub mod Kept
+pub mod Pages
+pub mod Seams

@@ -7,9 +7,13 @@ ghost use Rattle.store.specs.Sized.{Sized};
 ghost use Rattle.store.specs.Uses.{may-use, Fetched, Saved};
 
 pub mod plain;
+pub mod spliced;
 
 pub use plain::PlainStore;
 pub use plain::PlainPages;
+pub use plain::may_hold;
+pub use spliced::SplicedPages;
+pub use spliced::SplicedStore;
 
 // The bytes of a page.
 pub const PAGE_BYTES: usize = 64;
