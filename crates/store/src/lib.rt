@@ -6,9 +6,11 @@ ghost use Rattle.store.specs.Refusals.{refusal-number};
 ghost use Rattle.store.specs.Sized.{Sized};
 ghost use Rattle.store.specs.Uses.{may-use, Fetched, Saved};
 
+pub mod copying;
 pub mod plain;
 pub mod spliced;
 
+pub use copying::copy_store;
 pub use plain::PlainStore;
 pub use plain::PlainPages;
 pub use plain::may_hold;
