@@ -34,6 +34,7 @@ sized-set bytes page b z h =
       even = λ p lt.
           let l : p < length bytes = omega arith in
           elim (cases-eq p page) [
-              inl same ↦ ap (λ (i : ℕ). length (getD (set bytes page b) i [])) same ∙ (ap length (getD-set-same bytes page b [] (omega arith)) ∙ h)
-            | inr ne ↦ ap length (getD-set-other bytes page p b [] ne) ∙ z .even p l ];
+            | inl same ↦ ap (λ (i : ℕ). length (getD (set bytes page b) i [])) same ∙ (ap length (getD-set-same bytes page b [] (omega arith)) ∙ h)
+            | inr ne ↦ ap length (getD-set-other bytes page p b [] ne) ∙ z .even p l
+          ];
     }

@@ -45,8 +45,9 @@ module _ (m b : List ℕ) (p k : ℕ) (in-it : p < length m / 64) (k-is : k ≡ 
 
   pub page-kept : (q : ℕ) → q ≢ p → q < length m / 64 → page-of (putMid (64 * p) k m b) q ≡ page-of m q
   page-kept q ne h = elim (cases-lt q p) [
-      inl lt ↦ between-is (putMid (64 * p) k m b) (64 * q) (64 * q + 64) ∙ (ap (drop (64 * q)) (take-putMid-below (64 * p) k m b (64 * q + 64) (omega arith) (omega arith)) ∙ sym (between-is m (64 * q) (64 * q + 64)))
-    | inr ge ↦ let lt : p < q = omega arith in ap (take (64 * q + 64 - 64 * q)) (drop-putMid (64 * p) k m b (64 * q) (omega arith) (omega arith) (len ∙ sym k-is)) ]
+    | inl lt ↦ between-is (putMid (64 * p) k m b) (64 * q) (64 * q + 64) ∙ (ap (drop (64 * q)) (take-putMid-below (64 * p) k m b (64 * q + 64) (omega arith) (omega arith)) ∙ sym (between-is m (64 * q) (64 * q + 64)))
+    | inr ge ↦ let lt : p < q = omega arith in ap (take (64 * q + 64 - 64 * q)) (drop-putMid (64 * p) k m b (64 * q) (omega arith) (omega arith) (len ∙ sym k-is))
+  ]
 
   -- Writing the 64 bytes of a page sets that page and keeps the others.
   pub pages-write : pages-of (putMid (64 * p) k m b) ≡ set (pages-of m) p b
@@ -55,13 +56,14 @@ module _ (m b : List ℕ) (p k : ℕ) (in-it : p < length m / 64) (k-is : k ≡ 
       let n2 : length (pages-of m2) ≡ length m / 64 = pages-length m2 ∙ ap (λ n. n / 64) length-put in
       let n1 : length (pages-of m) ≡ length m / 64 = pages-length m in
       ext-getD [] (pages-of m2) (set (pages-of m) p b)
-          (n2 ∙ sym (length-set (pages-of m) p b ∙ n1))
-          (λ q h.
-              let lt : q < length m / 64 = omega arith in
-              let lt2 : q < length m2 / 64 = omega (arith, length-put) in
-              pages-read m2 q [] lt2 ∙ elim (cases-eq q p) [
-                  inl e ↦ ap (page-of m2) e ∙ (page-put ∙ (sym (getD-set-same (pages-of m) p b [] (omega arith)) ∙ ap (λ (i : ℕ). getD (set (pages-of m) p b) i []) (sym e)))
-                | inr ne ↦ page-kept q ne lt ∙ (sym (pages-read m q [] lt) ∙ sym (getD-set-other (pages-of m) p q b [] ne)) ])
+      (n2 ∙ sym (length-set (pages-of m) p b ∙ n1))
+      (λ q h.
+      let lt : q < length m / 64 = omega arith in
+      let lt2 : q < length m2 / 64 = omega (arith, length-put) in
+      pages-read m2 q [] lt2 ∙ elim (cases-eq q p) [
+        | inl e ↦ ap (page-of m2) e ∙ (page-put ∙ (sym (getD-set-same (pages-of m) p b [] (omega arith)) ∙ ap (λ (i : ℕ). getD (set (pages-of m) p b) i []) (sym e)))
+        | inr ne ↦ page-kept q ne lt ∙ (sym (pages-read m q [] lt) ∙ sym (getD-set-other (pages-of m) p q b [] ne))
+      ])
 
 -- The page of an accepted call lies in the memory.
 pub in-memory : (m : List ℕ) (p n len : ℕ) → n ≡ length (pages-of m) → Ok tt ≡ may-use n p len → p < length m / 64

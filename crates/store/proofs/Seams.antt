@@ -78,8 +78,9 @@ sized-splice xs ys a b h =
       some = omega (arith, a .some);
       few = omega arith;
       even = λ p lt. elim (cases-lt p (length xs)) [
-          inl l ↦ ap length (getD-append-left xs ys [] p l) ∙ a .even p l
-        | inr r ↦ ap length (getD-append-right xs ys (length xs) p [] refl r) ∙ b .even (p - length xs) (omega arith) ];
+        | inl l ↦ ap length (getD-append-left xs ys [] p l) ∙ a .even p l
+        | inr r ↦ ap length (getD-append-right xs ys (length xs) p [] refl r) ∙ b .even (p - length xs) (omega arith)
+      ];
     }
 
 -- A splice stays open where a part stays open with as many pages.

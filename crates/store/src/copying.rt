@@ -11,7 +11,11 @@ use crate::PageStore;
 use crate::StoreRefusal;
 
 // Copies one page, which both stores have.
-fn carry<F: PageStore, T: PageStore>(from: &mut F, to: &mut T, page: usize) -> Result<(), StoreRefusal>
+fn carry<F: PageStore, T: PageStore>(
+    from: &mut F,
+    to: &mut T,
+    page: usize,
+) -> Result<(), StoreRefusal>
     requires from { ⌜ F·PageStore .opened (now from) ⌝ }
     requires to { ⌜ T·PageStore .opened (now to) ⌝ }
     requires there { ⌜ page < length (F·PageStore .meaning (now from) .bytes) ⌝ }

@@ -11,8 +11,8 @@ pub mod plain;
 pub mod spliced;
 
 pub use copying::copy_store;
-pub use plain::PlainStore;
 pub use plain::PlainPages;
+pub use plain::PlainStore;
 pub use plain::may_hold;
 pub use spliced::SplicedPages;
 pub use spliced::SplicedStore;

@@ -33,7 +33,10 @@ fn page_of(fill: u8, last: u8) -> [u8; 64]
 }
 
 // Splices two stores, if that is not refused.
-fn join<F: PageStore + Drop, S: PageStore + Drop>(first: F, second: S) -> Result<SplicedStore<F, S>, StoreRefusal>
+fn join<F: PageStore + Drop, S: PageStore + Drop>(
+    first: F,
+    second: S,
+) -> Result<SplicedStore<F, S>, StoreRefusal>
     requires first { ⌜ F·PageStore .opened first ⌝ }
     requires second { ⌜ S·PageStore .opened second ⌝ }
     ensures { λ r. ⌜ made r (λ s. Joined (F·PageStore .opened (s .first)) (S·PageStore .opened (s .second)) (F·PageStore .meaning (s .first)) (S·PageStore .meaning (s .second))) ⌝ }
@@ -109,8 +112,16 @@ fn refusals(rt: &LibcRuntime) -> Result<(), Trouble> {
     let mut store = PlainStore::open(&mut memory)?;
     tell_store(rt, "the store", &store)?;
     let mut buffer = page_of(31, 32);
-    tell_answer(rt, "fetch page 0 into 63 bytes", store.fetch(0, &mut [0; 63]))?;
-    tell_answer(rt, "fetch page 1 into 65 bytes", store.fetch(1, &mut [0; 65]))?;
+    tell_answer(
+        rt,
+        "fetch page 0 into 63 bytes",
+        store.fetch(0, &mut [0; 63]),
+    )?;
+    tell_answer(
+        rt,
+        "fetch page 1 into 65 bytes",
+        store.fetch(1, &mut [0; 65]),
+    )?;
     tell_answer(rt, "fetch page 1", store.fetch(1, &mut buffer))?;
     tell_buffer(rt, &buffer)?;
     tell_answer(rt, "save page 0 from 65 bytes", store.save(0, &[0; 65]))?;
@@ -159,7 +170,12 @@ fn crowding(rt: &LibcRuntime) -> Result<(), Trouble> {
 }
 
 // A copy, and the tallies of both stores.
-fn copy<F: PageStore, T: PageStore>(rt: &LibcRuntime, call: &str, from: &mut F, to: &mut T) -> Result<(), Trouble>
+fn copy<F: PageStore, T: PageStore>(
+    rt: &LibcRuntime,
+    call: &str,
+    from: &mut F,
+    to: &mut T,
+) -> Result<(), Trouble>
     requires from { ⌜ F·PageStore .opened (now from) ⌝ }
     requires to { ⌜ T·PageStore .opened (now to) ⌝ }
     ensures from { λ _. ⌜ F·PageStore .opened (now (from .exit)) ⌝ }

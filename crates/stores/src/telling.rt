@@ -25,7 +25,11 @@ pub impl From<io::Error> for Trouble as TroubleFromOutput {
 }
 
 // A call, and its answer by number.
-pub fn tell_answer(rt: &LibcRuntime, call: &str, answer: Result<(), StoreRefusal>) -> io::Result<()> {
+pub fn tell_answer(
+    rt: &LibcRuntime,
+    call: &str,
+    answer: Result<(), StoreRefusal>,
+) -> io::Result<()> {
     match answer {
         Ok(()) => println!(rt, "  {call}: accepted"),
         Err(refusal) => {
@@ -42,7 +46,10 @@ pub fn tell_store<S: PageStore>(rt: &LibcRuntime, name: &str, store: &S) -> io::
     let pages = store.pages();
     let fetches = store.fetches();
     let saves = store.saves();
-    println!(rt, "  {name}: {pages} pages, {fetches} fetches, {saves} saves")
+    println!(
+        rt,
+        "  {name}: {pages} pages, {fetches} fetches, {saves} saves"
+    )
 }
 
 // The first and the last byte of a buffer.
@@ -55,7 +62,12 @@ pub fn tell_buffer(rt: &LibcRuntime, buffer: &[u8]) -> io::Result<()>
 }
 
 // The bytes of a memory at some places.
-pub fn tell_memory(rt: &LibcRuntime, name: &str, memory: &[u8], places: &[usize]) -> io::Result<()> {
+pub fn tell_memory(
+    rt: &LibcRuntime,
+    name: &str,
+    memory: &[u8],
+    places: &[usize],
+) -> io::Result<()> {
     print!(rt, "  {name}")?;
     let mut mark = ':';
     for place in places {

@@ -23,15 +23,16 @@ returns g c =
     let a = g .F·PageStore .meaning (c .args .self .now .first) in
     let b = g .S·PageStore .meaning (c .args .self .now .second) in
     elim (c .if-page-below .came) [
-        then-page-below·in-Continue-fetch w ↦
-            let told = w .in-Continue-fetch .ensures tt in
-            simp (w .self-is, w .buffer-is) (record {
-              opened = joined-first a b (c .pre) _ (told .opened) (ap length (fetch-keeps _ _ _ _ _ _ (told .effect)));
-              effect = fetch-first a b _ _ _ _ _ (c .pages-below .ensures .count) _ _ (Ok tt) (w .if-page-below .taken) (told .effect);
-            })
+      | then-page-below·in-Continue-fetch w ↦
+          let told = w .in-Continue-fetch .ensures tt in
+          simp (w .self-is, w .buffer-is) (record {
+            opened = joined-first a b (c .pre) _ (told .opened) (ap length (fetch-keeps _ _ _ _ _ _ (told .effect)));
+            effect = fetch-first a b _ _ _ _ _ (c .pages-below .ensures .count) _ _ (Ok tt) (w .if-page-below .taken) (told .effect);
+          })
       | else-page-below·in-Continue-fetch-2 w ↦
-            let told = w .in-Continue-fetch-2 .ensures tt in
-            simp (w .self-is, w .buffer-is) (record {
-              opened = joined-second a b (c .pre) _ (told .opened) (ap length (fetch-keeps _ _ _ _ _ _ (told .effect)));
-              effect = fetch-second a b _ _ _ _ _ (c .pages-below .ensures .count) _ _ (Ok tt) (w .if-page-below .left) (told .effect);
-            }) ]
+          let told = w .in-Continue-fetch-2 .ensures tt in
+          simp (w .self-is, w .buffer-is) (record {
+            opened = joined-second a b (c .pre) _ (told .opened) (ap length (fetch-keeps _ _ _ _ _ _ (told .effect)));
+            effect = fetch-second a b _ _ _ _ _ (c .pages-below .ensures .count) _ _ (Ok tt) (w .if-page-below .left) (told .effect);
+          })
+    ]
