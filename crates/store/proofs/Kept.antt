@@ -13,6 +13,7 @@ use Rattle.store.specs.declared.StoreRefusal.{StoreRefusal}
 use Rattle.store.specs.Meaning.{Meaning}
 use Rattle.store.specs.Sized.{Sized}
 use Rattle.store.specs.Uses.{Fetched, Saved}
+use Rattle.store.proofs.Calls.{accepted-length, accepted-page}
 
 -- A fetch keeps all the bytes.
 pub fetch-keeps : (m m2 : Meaning) (page : ℕ) (b b2 : List ℕ) (r : Result (Unit {0}) StoreRefusal) → Fetched m page b r m2 b2 → m2 .bytes ≡ m .bytes
@@ -38,3 +39,12 @@ sized-set bytes page b z h =
             | inr ne ↦ ap length (getD-set-other bytes page p b [] ne) ∙ z .even p l
           ];
     }
+
+-- A save keeps the pages sized, since it is accepted only from 64 bytes.
+pub save-keeps-sized : (m m2 : Meaning) (page : ℕ) (b : List ℕ) (r : Result (Unit {0}) StoreRefusal) → Saved m page b r m2 → Sized (m .bytes) → Sized (m2 .bytes)
+save-keeps-sized m m2 page b (Ok u) w z = rw (w .effect) (sized-set (m .bytes) page b z (accepted-length _ _ _ (w .answered)))
+save-keeps-sized m m2 page b (Err e) w z = rw (w .effect) z
+
+-- An accepted fetch gives 64 bytes.
+pub fetch-gives : (m m2 : Meaning) (page : ℕ) (b b2 : List ℕ) → Fetched m page b (Ok tt) m2 b2 → Sized (m .bytes) → length b2 ≡ 64
+fetch-gives m m2 page b b2 w z = ap length (w .effect .1) ∙ z .even page (accepted-page _ _ _ (w .answered))

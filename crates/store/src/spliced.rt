@@ -6,7 +6,7 @@ ghost use lib.Dec.{leb};
 ghost use lib.ListN.{length};
 ghost use Rattle.std.specs.declared.result.Result.the-variants.{Ok, Err};
 ghost use Rattle.store.specs.declared.StoreRefusal.the-variants.{TooManyPages};
-ghost use Rattle.store.specs.Splices.{Joined, spliced};
+ghost use Rattle.store.specs.Splices.{Joined, past-seam, spliced};
 use crate::MOST_PAGES;
 use crate::PageStore;
 use crate::StoreRefusal;
@@ -57,6 +57,19 @@ impl<F: PageStore, S: PageStore> SplicedStore<F, S> {
         } = self;
         (first, second)
     }
+
+    // The number that a page has in the second store, or `None` for a page of the first.
+    fn in_second(&self, page: usize) -> Option<usize>
+        requires { ⌜ F·PageStore .opened (now self .first) ⌝ }
+        ensures { λ r. ⌜ r ≡ past-seam (length (F·PageStore .meaning (now (self .entry) .first) .bytes)) page ⌝ }
+    {
+        let below = self.first.pages();
+        if page < below {
+            None
+        } else {
+            Some(page - below)
+        }
+    }
 }
 
 pub impl<F: PageStore, S: PageStore> PageStore for SplicedStore<F, S> as SplicedPages {
@@ -77,22 +90,18 @@ pub impl<F: PageStore, S: PageStore> PageStore for SplicedStore<F, S> as Spliced
     }
 
     fn fetch(&mut self, page: usize, buffer: &mut [u8]) -> Result<(), StoreRefusal> {
-        let below = self.first.pages();
-        if page < below {
-            self.first.fetch(page, buffer)?;
-        } else {
-            self.second.fetch(page - below, buffer)?;
+        match self.in_second(page) {
+            None => self.first.fetch(page, buffer)?,
+            Some(place) => self.second.fetch(place, buffer)?,
         }
         self.fetches = self.fetches.wrapping_add(1);
         Ok(())
     }
 
     fn save(&mut self, page: usize, buffer: &[u8]) -> Result<(), StoreRefusal> {
-        let below = self.first.pages();
-        if page < below {
-            self.first.save(page, buffer)?;
-        } else {
-            self.second.save(page - below, buffer)?;
+        match self.in_second(page) {
+            None => self.first.save(page, buffer)?,
+            Some(place) => self.second.save(place, buffer)?,
         }
         self.saves = self.saves.wrapping_add(1);
         Ok(())
