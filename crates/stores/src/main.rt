@@ -19,9 +19,10 @@ use telling::Trouble;
 use telling::TroubleFromOutput;
 use telling::TroubleFromRefusal;
 use telling::tell_answer;
-use telling::tell_buffer;
 use telling::tell_memory;
 use telling::tell_store;
+use telling::try_fetch;
+use telling::try_save;
 
 // A page whose bytes are all `fill`, but for the last.
 fn page_of(fill: u8, last: u8) -> [u8; 64]
@@ -77,15 +78,12 @@ fn across<S: PageStore>(rt: &LibcRuntime, splice: &mut S) -> Result<(), Trouble>
     ensures { λ _. ⌜ S·PageStore .opened (now (splice .exit)) ⌝ }
 {
     tell_store(rt, "the splice", splice)?;
-    tell_answer(rt, "save page 1", splice.save(1, &page_of(11, 12)))?;
-    tell_answer(rt, "save page 2", splice.save(2, &page_of(21, 22)))?;
+    try_save(rt, splice, 1, &page_of(11, 12))?;
+    try_save(rt, splice, 2, &page_of(21, 22))?;
     let mut buffer = page_of(1, 1);
-    tell_answer(rt, "fetch page 1", splice.fetch(1, &mut buffer))?;
-    tell_buffer(rt, &buffer)?;
-    tell_answer(rt, "fetch page 2", splice.fetch(2, &mut buffer))?;
-    tell_buffer(rt, &buffer)?;
-    tell_answer(rt, "fetch page 4", splice.fetch(4, &mut buffer))?;
-    tell_buffer(rt, &buffer)?;
+    try_fetch(rt, splice, 1, &mut buffer)?;
+    try_fetch(rt, splice, 2, &mut buffer)?;
+    try_fetch(rt, splice, 4, &mut buffer)?;
     tell_store(rt, "the splice", splice)?;
     Ok(())
 }
@@ -106,31 +104,43 @@ fn splicing(rt: &LibcRuntime) -> Result<(), Trouble> {
 }
 
 // Each refusal of a fetch and a save: the buffer's length is looked at before the page.
+fn refused<S: PageStore>(rt: &LibcRuntime, store: &mut S) -> Result<(), Trouble>
+    requires { ⌜ S·PageStore .opened (now store) ⌝ }
+    ensures { λ _. ⌜ S·PageStore .opened (now (store .exit)) ⌝ }
+{
+    try_fetch(rt, store, 0, &mut [9; 63])?;
+    try_fetch(rt, store, 1, &mut [9; 65])?;
+    try_fetch(rt, store, 1, &mut page_of(31, 32))?;
+    try_save(rt, store, 0, &[9; 65])?;
+    try_save(rt, store, 1, &[9; 63])?;
+    try_save(rt, store, 1, &page_of(31, 32))?;
+    Ok(())
+}
+
+// Refused calls leave the bytes and the tallies as they are.
 fn refusals(rt: &LibcRuntime) -> Result<(), Trouble> {
     println!(rt, "refused calls on 1 page")?;
     let mut memory = [7u8; 64];
     let mut store = PlainStore::open(&mut memory)?;
     tell_store(rt, "the store", &store)?;
-    let mut buffer = page_of(31, 32);
-    tell_answer(
-        rt,
-        "fetch page 0 into 63 bytes",
-        store.fetch(0, &mut [0; 63]),
-    )?;
-    tell_answer(
-        rt,
-        "fetch page 1 into 65 bytes",
-        store.fetch(1, &mut [0; 65]),
-    )?;
-    tell_answer(rt, "fetch page 1", store.fetch(1, &mut buffer))?;
-    tell_buffer(rt, &buffer)?;
-    tell_answer(rt, "save page 0 from 65 bytes", store.save(0, &[0; 65]))?;
-    tell_answer(rt, "save page 1 from 63 bytes", store.save(1, &[0; 63]))?;
-    tell_answer(rt, "save page 1", store.save(1, &buffer))?;
+    refused(rt, &mut store)?;
     tell_store(rt, "the store", &store)?;
-    tell_answer(rt, "fetch page 0", store.fetch(0, &mut buffer))?;
-    tell_buffer(rt, &buffer)?;
+    try_fetch(rt, &mut store, 0, &mut [0; 64])?;
     tell_store(rt, "the store", &store)?;
+    Ok(())
+}
+
+// Saves to four pages, and fetches the last and the first.
+fn four_pages<S: PageStore>(rt: &LibcRuntime, store: &mut S) -> Result<(), Trouble>
+    requires { ⌜ S·PageStore .opened (now store) ⌝ }
+    ensures { λ _. ⌜ S·PageStore .opened (now (store .exit)) ⌝ }
+{
+    try_save(rt, store, 0, &page_of(41, 40))?;
+    try_save(rt, store, 1, &page_of(41, 41))?;
+    try_save(rt, store, 2, &page_of(41, 42))?;
+    try_save(rt, store, 3, &page_of(41, 43))?;
+    try_fetch(rt, store, 3, &mut [0; 64])?;
+    try_fetch(rt, store, 0, &mut [0; 64])?;
     Ok(())
 }
 
@@ -140,15 +150,7 @@ fn nesting(rt: &LibcRuntime) -> Result<(), Trouble> {
     let (mut a, mut b, mut c) = ([0u8; 64], [0u8; 64], [0u8; 128]);
     let inner = join(PlainStore::open(&mut a)?, PlainStore::open(&mut b)?)?;
     let mut whole = join(inner, PlainStore::open(&mut c)?)?;
-    tell_answer(rt, "save page 0", whole.save(0, &page_of(41, 40)))?;
-    tell_answer(rt, "save page 1", whole.save(1, &page_of(41, 41)))?;
-    tell_answer(rt, "save page 2", whole.save(2, &page_of(41, 42)))?;
-    tell_answer(rt, "save page 3", whole.save(3, &page_of(41, 43)))?;
-    let mut buffer = page_of(0, 0);
-    tell_answer(rt, "fetch page 3", whole.fetch(3, &mut buffer))?;
-    tell_buffer(rt, &buffer)?;
-    tell_answer(rt, "fetch page 0", whole.fetch(0, &mut buffer))?;
-    tell_buffer(rt, &buffer)?;
+    four_pages(rt, &mut whole)?;
     tell_store(rt, "the whole", &whole)?;
     let (inner, _) = whole.split();
     tell_store(rt, "the inner splice", &inner)?;
@@ -182,8 +184,8 @@ fn copy<F: PageStore, T: PageStore>(
     ensures to { λ _. ⌜ T·PageStore .opened (now (to .exit)) ⌝ }
 {
     tell_answer(rt, call, copy_store(from, to))?;
-    tell_store(rt, "  from", from)?;
-    tell_store(rt, "  into", to)?;
+    tell_store(rt, "from", from)?;
+    tell_store(rt, "into", to)?;
     Ok(())
 }
 

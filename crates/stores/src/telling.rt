@@ -24,19 +24,74 @@ pub impl From<io::Error> for Trouble as TroubleFromOutput {
     }
 }
 
-// A call, and its answer by number.
+// An answer: accepted, or refused with its number.
+fn tell_result(rt: &LibcRuntime, answer: Result<(), StoreRefusal>) -> io::Result<()> {
+    match answer {
+        Ok(()) => print!(rt, "accepted"),
+        Err(refusal) => {
+            let number = refusal.number();
+            print!(rt, "refused, {number}")
+        }
+    }
+}
+
+// A call and its answer.
 pub fn tell_answer(
     rt: &LibcRuntime,
     call: &str,
     answer: Result<(), StoreRefusal>,
 ) -> io::Result<()> {
-    match answer {
-        Ok(()) => println!(rt, "  {call}: accepted"),
-        Err(refusal) => {
-            let number = refusal.number();
-            println!(rt, "  {call}: refused, {number}")
-        }
-    }
+    print!(rt, "  {call}: ")?;
+    tell_result(rt, answer)?;
+    println!(rt, "")
+}
+
+// A fetch or a save with its answer, and the buffer after it.
+fn tell_transfer(
+    rt: &LibcRuntime,
+    call: &str,
+    page: usize,
+    buffer: &[u8],
+    answer: Result<(), StoreRefusal>,
+) -> io::Result<()>
+    requires { ⌜ 0 < length (now buffer) ⌝ }
+{
+    print!(rt, "  {call} page {page}: ")?;
+    tell_result(rt, answer)?;
+    let length = buffer.len();
+    let first = buffer[0];
+    let last = buffer[length - 1];
+    println!(rt, "; the buffer is {length} bytes, {first} .. {last}")
+}
+
+// Fetches a page, and tells the answer and the buffer.
+pub fn try_fetch<S: PageStore>(
+    rt: &LibcRuntime,
+    store: &mut S,
+    page: usize,
+    buffer: &mut [u8],
+) -> io::Result<()>
+    requires opened { ⌜ S·PageStore .opened (now store) ⌝ }
+    requires some { ⌜ 0 < length (now buffer) ⌝ }
+    ensures { λ _. ⌜ S·PageStore .opened (now (store .exit)) ⌝ }
+{
+    let answer = store.fetch(page, buffer);
+    tell_transfer(rt, "fetch", page, buffer, answer)
+}
+
+// Saves a page, and tells the answer and the buffer.
+pub fn try_save<S: PageStore>(
+    rt: &LibcRuntime,
+    store: &mut S,
+    page: usize,
+    buffer: &[u8],
+) -> io::Result<()>
+    requires opened { ⌜ S·PageStore .opened (now store) ⌝ }
+    requires some { ⌜ 0 < length (now buffer) ⌝ }
+    ensures { λ _. ⌜ S·PageStore .opened (now (store .exit)) ⌝ }
+{
+    let answer = store.save(page, buffer);
+    tell_transfer(rt, "save", page, buffer, answer)
 }
 
 // The questions that a store answers.
@@ -50,15 +105,6 @@ pub fn tell_store<S: PageStore>(rt: &LibcRuntime, name: &str, store: &S) -> io::
         rt,
         "  {name}: {pages} pages, {fetches} fetches, {saves} saves"
     )
-}
-
-// The first and the last byte of a buffer.
-pub fn tell_buffer(rt: &LibcRuntime, buffer: &[u8]) -> io::Result<()>
-    requires { ⌜ 0 < length (now buffer) ⌝ }
-{
-    let first = buffer[0];
-    let last = buffer[buffer.len() - 1];
-    println!(rt, "    the buffer: {first} .. {last}")
 }
 
 // The bytes of a memory at some places.
