@@ -6,6 +6,10 @@ use lib.Dec.{eqb, ltb, leb}
 use lib.ListN.{length}
 use Rattle.std.specs.Holes.{between}
 use Rattle.std.specs.Iters.{counting}
+use Rattle.std.specs.declared.result.Result.{Result}
+use Rattle.std.specs.declared.result.Result.the-variants.{Ok, Err}
+use Rattle.store.specs.declared.StoreRefusal.{StoreRefusal}
+use Rattle.store.specs.declared.StoreRefusal.the-variants.{StoreLength}
 use Rattle.store.specs.Meaning.{Meaning}
 
 -- A length that is 64 × pages, for a number of pages that a store may have.
@@ -18,6 +22,10 @@ pub record Whole (len : ℕ) : Type 0 where
 -- The test for such a length.
 abbrev pub whole : ℕ → Bool
 whole len = eqb (64 * (len / 64)) len && (ltb 0 (len / 64) && leb (len / 64) 512)
+
+-- What is answered to an opening of a plain store over len bytes.
+abbrev pub may-hold : ℕ → Result (Unit {0}) StoreRefusal
+may-hold len = cond (whole len) (Ok tt) (Err StoreLength)
 
 -- Page p of a memory: the 64 bytes from place 64 × p.
 abbrev pub page-of : List ℕ → ℕ → List ℕ

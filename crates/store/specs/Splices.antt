@@ -1,14 +1,19 @@
-use mathlib.Core.List.{List, _++_}
+use mathlib.Core.List.{_++_}
 use mathlib.Core.Bool.{cond}
 use Prim.Native.Nat.{ℕ, _+_, _-_, _≤_}
-use lib.Dec.{ltb}
+use lib.Dec.{leb, ltb}
 use lib.ListN.{length}
 use Rattle.std.specs.declared.option.Option.{Option}
 use Rattle.std.specs.declared.option.Option.the-variants.{None, Some}
 use Rattle.std.specs.declared.result.Result.{Result}
 use Rattle.std.specs.declared.result.Result.the-variants.{Ok, Err}
 use Rattle.store.specs.declared.StoreRefusal.{StoreRefusal}
+use Rattle.store.specs.declared.StoreRefusal.the-variants.{TooManyPages}
 use Rattle.store.specs.Meaning.{Meaning, counted}
+
+-- What is answered to a splice of stores of n and m pages: together they may have 512.
+abbrev pub may-splice : ℕ → ℕ → Result (Unit {0}) StoreRefusal
+may-splice n m = cond (leb (n + m) 512) (Ok tt) (Err TooManyPages)
 
 -- What a splice of two stores means, with its own two tallies: the first one's pages, then the second one's.
 abbrev pub spliced : Meaning → Meaning → ℕ → ℕ → Meaning

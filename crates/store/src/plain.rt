@@ -1,13 +1,11 @@
 // The plain store: pages in the caller's memory, one after another.
 ghost use mathlib.Core.Path.{_≡_};
-ghost use mathlib.Core.Bool.{cond};
 ghost use Prim.Native.Nat.{_<_, _/_};
 ghost use denote.Ref.{now};
 ghost use lib.ListN.{length};
 ghost use Rattle.std.specs.Results.{Cases};
-ghost use Rattle.std.specs.declared.result.Result.the-variants.{Ok, Err};
 ghost use Rattle.store.specs.declared.StoreRefusal.the-variants.{StoreLength};
-ghost use Rattle.store.specs.Memory.{Whole, whole, page-of, plain};
+ghost use Rattle.store.specs.Memory.{Whole, may-hold, page-of, plain};
 use crate::MOST_PAGES;
 use crate::PAGE_BYTES;
 use crate::PageStore;
@@ -16,7 +14,7 @@ use crate::may_use;
 
 // Whether a plain store opens over a memory of `length` bytes.
 pub fn may_hold(length: usize) -> Result<(), StoreRefusal>
-    ensures { λ r. ⌜ r ≡ cond (whole length) (Ok tt) (Err StoreLength) ⌝ }
+    ensures { λ r. ⌜ r ≡ may-hold length ⌝ }
 {
     let pages = length / PAGE_BYTES;
     if PAGE_BYTES * pages != length {

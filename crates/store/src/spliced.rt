@@ -1,12 +1,7 @@
 // The spliced store: two stores of any make as one, the first one's pages coming first.
 ghost use mathlib.Core.Path.{_≡_};
-ghost use mathlib.Core.Bool.{cond};
-ghost use Prim.Native.Nat.{_+_, _≤_};
-ghost use lib.Dec.{leb};
 ghost use lib.ListN.{length};
-ghost use Rattle.std.specs.declared.result.Result.the-variants.{Ok, Err};
-ghost use Rattle.store.specs.declared.StoreRefusal.the-variants.{TooManyPages};
-ghost use Rattle.store.specs.Splices.{Joined, past-seam, spliced};
+ghost use Rattle.store.specs.Splices.{Joined, may-splice, past-seam, spliced};
 use crate::MOST_PAGES;
 use crate::PageStore;
 use crate::StoreRefusal;
@@ -24,7 +19,7 @@ impl<F: PageStore, S: PageStore> SplicedStore<F, S> {
     // Whether the two may be spliced: refused where their page counts sum above 512.
     pub fn check(first: &F, second: &S) -> Result<(), StoreRefusal>
         requires { ⌜ F·PageStore .opened (now first) ⌝ ∗ ⌜ S·PageStore .opened (now second) ⌝ }
-        ensures { λ r. ⌜ r ≡ cond (leb (length (F·PageStore .meaning (now (first .entry)) .bytes) + length (S·PageStore .meaning (now (second .entry)) .bytes)) 512) (Ok tt) (Err TooManyPages) ⌝ }
+        ensures { λ r. ⌜ r ≡ may-splice (length (F·PageStore .meaning (now (first .entry)) .bytes)) (length (S·PageStore .meaning (now (second .entry)) .bytes)) ⌝ }
     {
         if first.pages() + second.pages() > MOST_PAGES {
             return Err(StoreRefusal::TooManyPages);
