@@ -154,7 +154,7 @@ pub fn cut<'a>(line: usize, bytes: &'a [u8]) -> Result<Line<'a>, LineFault>
 }
 
 // The header, if what it tells is in range.
-fn ranged(header: Header) -> Result<Header, LineFault>
+pub fn ranged(header: Header) -> Result<Header, LineFault>
     ensures { λ r. ⌜ r ≡ in-range header ⌝ }
 {
     if header.pages < 1 || header.pages > 512 {
