@@ -4,3 +4,9 @@ pub mod Puts
 pub mod Checks
 pub mod Texts
 pub mod Measures
+pub mod Fits
+pub mod Written
+pub mod Backs
+pub mod Shapes
+pub mod Laws
+pub mod Rewritten

@@ -5,10 +5,9 @@ use Prim.Native.Nat.{ℕ, _+_, _-_, _<_, _≤_}
 use native.Mathlib.Omega.{arith}
 use borrow.Rule.Slice.PartMut.{putMid}
 use lib.ListN.{length, getD, take, drop}
-use Rattle.std.specs.shelf.Lists.{All}
-use Rattle.std.proofs.shelf.Lists.{length-append, length-drop, take-more, take-append-drop, take-all, joined-more, drop-drop, drop-at, take-at}
+use Rattle.std.proofs.shelf.Lists.{append-nil, length-append, length-drop, take-more, take-rest, take-append-drop, take-all, joined-more, drop-all, drop-drop, drop-at, take-at}
 use Rattle.lines.specs.declared.CallRecord.{CallRecord}
-use Rattle.writing.specs.Text.{call-text, calls-text, text-first, Narrow}
+use Rattle.writing.specs.Text.{call-text, calls-text, text-first}
 
 -- The text of calls and more calls.
 pub text-append : (xs ys : List CallRecord) → calls-text (xs ++ ys) ≡ calls-text xs ++ calls-text ys
@@ -31,3 +30,18 @@ length-more cs i d h = ap length (text-more cs i d h) ∙ length-append (calls-t
 
 pub text-all : (cs : List CallRecord) (i : ℕ) → length cs ≤ i → calls-text (take i cs) ≡ calls-text cs
 text-all cs i all = ap calls-text (take-all i cs all)
+
+-- What is left of some bytes from a place on has room for n bytes where the whole has.
+pub room-left : (bytes : List ℕ) (at n : ℕ) → at + n ≤ length bytes → n ≤ length (take (length bytes - at) (drop at bytes))
+room-left bytes at n h = let a = ap length (take-rest bytes at) ∙ length-drop at bytes in omega arith
+
+-- A text put after another that stands at the front.
+pub put-on : (t line old bytes part : List ℕ) (at : ℕ) → at ≡ length t → bytes ≡ text-first t old → part ≡ text-first line (take (length bytes - at) (drop at bytes)) → putMid at (length bytes - at) bytes part ≡ text-first (t ++ line) old
+put-on t line old bytes part at e is put =
+    let front : take at bytes ≡ t = ap (take at) is ∙ take-at t (drop (length t) old) at (sym e) in
+    let rest : drop at bytes ≡ drop (length t) old = ap (drop at) is ∙ drop-at t (drop (length t) old) at (sym e) in
+    let none : drop (length bytes - at) (drop at bytes) ≡ [] = drop-all (length bytes - at) (drop at bytes) (omega (arith, length-drop at bytes)) in
+    let more : part ≡ line ++ drop (length line) (drop (length t) old) = put ∙ ap (text-first line) (take-rest bytes at ∙ rest) in
+    ap (λ z. z ++ (part ++ drop (length bytes - at) (drop at bytes))) front ∙ ap (λ z. t ++ (part ++ z)) none ∙ ap (λ z. t ++ z) (append-nil part ∙ more)
+    ∙ sym (append-assoc t line (drop (length line) (drop (length t) old)))
+    ∙ ap (λ z. (t ++ line) ++ z) (drop-drop (length line) (length t) old ∙ ap (λ k. drop k old) (sym (length-append t line)))

@@ -1,4 +1,5 @@
 pub mod Text
 pub mod Refusals
 pub mod Whole
+pub mod Rewritten
 pub mod Laws

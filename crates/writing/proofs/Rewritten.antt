@@ -1,0 +1,2 @@
+-- What is read and written again.
+use mathlib.Core.Path.{_≡_, sym, ap, _∙_}
