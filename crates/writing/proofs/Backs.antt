@@ -41,7 +41,7 @@ NotTen b = b ≡ 10 → ⊥
 pub justified-clean : (w v : ℕ) → v < 2 ^ 32 → All NotTen (justified w v)
 justified-clean w v small =
     all-append NotTen (replicate (w - length (decimal v)) 32) (decimal v)
-    (all-from-getD NotTen (replicate (w - length (decimal v)) 32) 0 (λ i h e. let l = length-replicate {A = ℕ} (w - length (decimal v)) 32 in let g = getD-replicate (w - length (decimal v)) i 32 0 (omega arith) in omega arith))
+    (all-from-getD NotTen (replicate (w - length (decimal v)) 32) 0 (λ i h e. let l = length-replicate {A = ℕ} (w - length (decimal v)) 32 in let g : getD (replicate {A = ℕ} (w - length (decimal v)) 32) i 0 ≡ 32 = getD-replicate (w - length (decimal v)) i 32 0 (omega arith) in omega arith))
     (all-from-getD NotTen (decimal v) 0 (λ i h e. let d = digits-decimal own v (omega arith) i h in omega arith))
 
 -- A number in its columns reads back.

@@ -8,8 +8,11 @@ ghost use Rattle.std.specs.Written.{decimal};
 ghost use Rattle.std.specs.shelf.Lists.{All};
 ghost use Rattle.fields.specs.Justified.{justified};
 ghost use Rattle.lines.specs.Fit.{HeaderFit};
+ghost use Rattle.recordings.specs.Whole.{table-after};
 ghost use Rattle.writing.specs.Text.{header-text, call-text, calls-text, Narrow, text-first};
 ghost use Rattle.writing.specs.Refusals.{call-in-range, calls-in-range};
+ghost use Rattle.writing.specs.Laws.{ReadsBack, SameBytes, SameAgain, OnlyWritten};
+ghost use Rattle.writing.specs.Rewritten.{rewrite-recording, if-accepted};
 ghost use Rattle.writing.specs.Whole.{short-length, written-text, write-recording, buffer-after};
 use lines::CallRecord;
 use lines::Header;
@@ -168,4 +171,41 @@ fn put_recording(header: Header, calls: &[CallRecord], buffer: &mut [u8]) -> Res
     put_header(header, buffer);
     put_calls(calls, &mut buffer[HEADER_LENGTH..]);
     Ok(length)
+}
+
+// Writes a recording into the buffer, and gives its length; the rest of a longer buffer is left.
+// A refusal writes nothing.
+pub fn write(header: Header, calls: &[CallRecord], buffer: &mut [u8]) -> Result<usize, RunFault>
+    ensures answer { λ r. ⌜ r ≡ write-recording header (now (calls .entry)) (length (now (buffer .entry))) ⌝ }
+    ensures buffer { λ _. ⌜ now (buffer .exit) ≡ buffer-after header (now (calls .entry)) (now (buffer .entry)) ⌝ }
+    ensures back { λ r. ⌜ ReadsBack r (now (buffer .exit)) header (now (calls .entry)) ⌝ }
+{
+    put_recording(header, calls, buffer)
+}
+
+// Reads a recording into the table, and writes what it says into the buffer.
+fn read_and_write(bytes: &[u8], calls: &mut [CallRecord], buffer: &mut [u8]) -> Result<usize, RunFault>
+    ensures answer { λ r. ⌜ r ≡ rewrite-recording (now (bytes .entry)) (length (now (calls .entry))) (length (now (buffer .entry))) ⌝ }
+    ensures table { λ r. ⌜ now (calls .exit) ≡ if-accepted r (table-after (now (bytes .entry)) (now (calls .entry))) (now (calls .entry)) ⌝ }
+    ensures buffer { λ r. ⌜ now (buffer .exit) ≡ if-accepted r (text-first (now (bytes .entry)) (now (buffer .entry))) (now (buffer .entry)) ⌝ }
+{
+    if buffer.len() < bytes.len() {
+        recordings::check(bytes)?;
+        return Err(RunFault::TableShort);
+    }
+    let summary = recordings::read(bytes, calls)?;
+    put_recording(summary.header, &calls[..summary.calls], buffer)
+}
+
+// Reads a recording into the table, and writes what it says into the buffer: the same bytes.
+// A refusal leaves the table and the buffer as they were.
+pub fn rewrite(bytes: &[u8], calls: &mut [CallRecord], buffer: &mut [u8]) -> Result<usize, RunFault>
+    ensures answer { λ r. ⌜ r ≡ rewrite-recording (now (bytes .entry)) (length (now (calls .entry))) (length (now (buffer .entry))) ⌝ }
+    ensures table { λ r. ⌜ now (calls .exit) ≡ if-accepted r (table-after (now (bytes .entry)) (now (calls .entry))) (now (calls .entry)) ⌝ }
+    ensures buffer { λ r. ⌜ now (buffer .exit) ≡ if-accepted r (text-first (now (bytes .entry)) (now (buffer .entry))) (now (buffer .entry)) ⌝ }
+    ensures same { λ r. ⌜ SameBytes r (now (buffer .exit)) (now (bytes .entry)) ⌝ }
+    ensures again { λ _. ⌜ SameAgain ⌝ }
+    ensures only { λ _. ⌜ OnlyWritten ⌝ }
+{
+    read_and_write(bytes, calls, buffer)
 }
