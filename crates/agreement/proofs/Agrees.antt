@@ -28,9 +28,14 @@ use Rattle.model.specs.Rows.{above, rowFetches, rowFaults, rowReclaims, rowSave
 use Rattle.model.specs.Pager.{cut, evicted, fault, Pager, pagerFresh, pagerRead, pagerWrite, pagerSettle, pagerRun}
 use Rattle.model.proofs.Uses.{sound-fresh, once-bottom, sound-used, used-out}
 use Rattle.model.proofs.Marks.{raised-none}
-use Rattle.agreement.proofs.Moves.{sound-cut, cut-used, grown, moved}
+use Rattle.agreement.proofs.Moves.{take-nil, sound-cut, cut-used, grown, moved}
 use Rattle.agreement.proofs.Marks.{Covers, covers-raised, open-parts, over-raised, shallow-raised}
 use Rattle.agreement.proofs.Found.{absent-is, found-above, found-upTo}
+
+-- A call of a page below n, or a settle.
+abbrev pub Fits : ℕ → Call → Type 0
+Fits n (Use kind p) = p < n
+Fits n Settle = Unit {0}
 
 -- What every call keeps: the pager's order is the census's, cut; a mark is at least its page's depth;
 -- a page is dirty exactly if its window is open with a mark of at most l; the frames taken are the faults less the evictions;
@@ -139,3 +144,30 @@ module _ (r : Rule) (n k l : ℕ) (slots : (state : ℕ) → r .slot state k < k
   } where
     parts : (q : ℕ) → isOpen (b .marks q) ≡ over l (b .marks q) + one (s .dirty q)
     parts q = rw (a .dirty q) (open-parts l (b .marks q))
+
+  pub agrees-run : (s : Pager) (b : Ledger) → Agrees n k l s b → (calls : List Call) → All (Fits n) calls → Agrees n k l (pagerRun r n k l s calls) (shownAll r n k b calls)
+  agrees-run s b a [] h = a
+  agrees-run s b a (Use Read p ∷ calls) h = agrees-run (pagerRead r k l p s) (shownRead r k p b) (step-read p (h .0) s b a) calls (h .1)
+  agrees-run s b a (Use Write p ∷ calls) h = agrees-run (pagerWrite r k l p s) (shownWrite r k p b) (step-write p (h .0) s b a) calls (h .1)
+  agrees-run s b a (Settle ∷ calls) h = agrees-run (pagerSettle n s) (shownSettle n b) (step-settle s b a) calls (h .1)
+
+pub agrees-fresh : (n k l told : ℕ) → Agrees n k l (pagerFresh told) (unseen told)
+agrees-fresh n k l told = record {
+  order = ap (λ bs. record { top = []; bottom = bs; told = told }) (sym (take-nil l));
+  sound = sound-fresh n k told;
+  covers = λ q. tt;
+  dirty = λ q. refl;
+  held = rw (take-nil l) refl;
+  known = refl;
+  fetches = refl;
+  faults = refl;
+  reclaims = refl;
+  saves = omega (arith, total-zero (λ q. 0) n (λ q lt. refl));
+}
+
+-- The evictions are the faults less the frames taken: all pages used, or as many as there are frames.
+pub evictions-are : (n k l : ℕ) (s : Pager) (b : Ledger) → Agrees n k l s b → s .evictions + min (pagesUsed b) (k + l) ≡ rowFaults l b
+evictions-are n k l s b a = elim (cases-lt (length (b .order .top)) k) [
+  | inl y ↦ omega (arith, a .held, a .faults, a .known, length-take l (b .order .bottom), ap length (a .sound .full y))
+  | inr m ↦ omega (arith, a .held, a .faults, a .known, length-take l (b .order .bottom), a .sound .fits)
+]

@@ -41,16 +41,17 @@ inclusion (suc n) p out bs = ap (λ xs. out ∷ xs) (first-without n p bs)
 drop-of-take : (l : ℕ) (bs : List ℕ) → drop l (take l bs) ≡ []
 drop-of-take l bs = drop-all l (take l bs) (rw (length-take l bs) (omega arith))
 
+pub take-nil : (l : ℕ) → take {A = ℕ} l [] ≡ []
+take-nil zero = refl
+take-nil (suc l) = refl
+
 -- A cut order keeps what a sound order keeps.
 pub sound-cut : (n k l : ℕ) (o : Order) → Sound n k o → Sound n k (cut l o)
 sound-cut n k l o s = record {
   once = λ q. omega (arith, s .once q, weigh-parts (λ x. one (eqb x q)) l (o .bottom));
   fits = s .fits;
-  full = λ z. ap (take l) (s .full z) ∙ nothing l;
-} where
-  nothing : (l : ℕ) → take {A = ℕ} l [] ≡ []
-  nothing zero = refl
-  nothing (suc l) = refl
+  full = λ z. ap (take l) (s .full z) ∙ take-nil l;
+}
 
 module _ (r : Rule) (k l p : ℕ) (o : Order) where
   -- Cutting before the use or after it comes to the same.
