@@ -17,19 +17,7 @@ use Rattle.model.specs.Pager.{cut, holds, evicted, stillDirty, pagerFresh}
 use Rattle.model.specs.Bytes.{Deed, reads, writes, settles, Paged, pagedFresh, savedBelow, pagedRead, pagedWrite, pagedSettle, pagedRun, given, bookStep, bookRun}
 use Rattle.model.proofs.Uses.{sound-fresh, sound-used, used-in}
 use Rattle.agreement.proofs.Moves.{sound-cut, others}
-
--- How often a page has a frame.
-abbrev frames : ℕ → Order → ℕ
-frames q o = occ q (o .top) + occ q (o .bottom)
-
-holds-cases : (p : ℕ) (o : Order) → ((0 < frames p o) × (holds p o ≡ true)) ⊎ ((frames p o ≤ 0) × (holds p o ≡ false))
-holds-cases p o = elim (ltb-cases 0 (occ p (o .top))) [
-  | inl h ↦ inl (omega (arith, h .0), rw (h .1) refl)
-  | inr h ↦ elim (ltb-cases 0 (occ p (o .bottom))) [
-    | inl y ↦ inl (omega (arith, y .0), rw (h .1, y .1) refl)
-    | inr n ↦ inr (omega (arith, h .0, n .0), rw (h .1, n .1) refl)
-  ]
-]
+use Rattle.agreement.proofs.Found.{frames, holds-cases}
 
 -- A frame has the book's bytes; so has the store below for each page that is not dirty; and a dirty page has a frame.
 pub record Kept (n k : ℕ) (w : Paged) (book : ℕ → List ℕ) : Type 0 where

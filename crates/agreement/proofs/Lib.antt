@@ -4,3 +4,5 @@ pub mod Found
 pub mod Agrees
 pub mod Few
 pub mod Bytes
+pub mod Recency
+pub mod Plain
