@@ -28,7 +28,7 @@ use Rattle.model.specs.Rows.{above, rowFetches, rowFaults, rowReclaims, rowSave
 use Rattle.model.specs.Pager.{cut, evicted, fault, Pager, pagerFresh, pagerRead, pagerWrite, pagerSettle, pagerRun}
 use Rattle.model.proofs.Uses.{sound-fresh, once-bottom, sound-used, used-out}
 use Rattle.model.proofs.Marks.{raised-none}
-use Rattle.agreement.proofs.Moves.{take-nil, sound-cut, cut-used, grown, moved}
+use Rattle.agreement.proofs.Moves.{take-nil, cut-fresh, sound-cut, cut-used, grown, moved}
 use Rattle.agreement.proofs.Marks.{Covers, covers-raised, open-parts, over-raised, shallow-raised}
 use Rattle.agreement.proofs.Found.{absent-is, found-above, found-upTo}
 
@@ -153,7 +153,7 @@ module _ (r : Rule) (n k l : ℕ) (slots : (state : ℕ) → r .slot state k < k
 
 pub agrees-fresh : (n k l told : ℕ) → Agrees n k l (pagerFresh told) (unseen told)
 agrees-fresh n k l told = record {
-  order = ap (λ bs. record { top = []; bottom = bs; told = told }) (sym (take-nil l));
+  order = sym (cut-fresh l told);
   sound = sound-fresh n k told;
   covers = λ q. tt;
   dirty = λ q. refl;

@@ -6,3 +6,5 @@ pub mod Few
 pub mod Bytes
 pub mod Recency
 pub mod Plain
+pub mod Lru
+pub mod Joined

@@ -12,7 +12,7 @@ use Rattle.std.proofs.shelf.Tests.{cases-lt, lt-ltb, le-ltb, eq-eqb, ne-eqb}
 use Rattle.lists.specs.Weights.{weigh, one, occ, has}
 use Rattle.lists.specs.Places.{without}
 use Rattle.lists.proofs.Weights.{eqb-cases, ltb-cases, weigh-push, weigh-set, weigh-parts, weigh-without, without-none, occ-without}
-use Rattle.model.specs.Order.{Rule, Order, used}
+use Rattle.model.specs.Order.{Rule, Order, fresh, used}
 use Rattle.model.specs.Sound.{Sound}
 use Rattle.model.specs.Pager.{cut, fault}
 use Rattle.model.proofs.Uses.{once-bottom}
@@ -44,6 +44,9 @@ drop-of-take l bs = drop-all l (take l bs) (rw (length-take l bs) (omega arith))
 pub take-nil : (l : ℕ) → take {A = ℕ} l [] ≡ []
 take-nil zero = refl
 take-nil (suc l) = refl
+
+pub cut-fresh : (l told : ℕ) → cut l (fresh told) ≡ fresh told
+cut-fresh l told = ap (λ bs. record { top = []; bottom = bs; told = told }) (take-nil l)
 
 -- A cut order keeps what a sound order keeps.
 pub sound-cut : (n k l : ℕ) (o : Order) → Sound n k o → Sound n k (cut l o)

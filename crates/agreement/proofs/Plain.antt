@@ -123,6 +123,9 @@ pub record Plain (j : ℕ) (past held recent : List ℕ) : Type 0 where
   pub rising : Rising past recent
   pub same : (f : ℕ → ℕ) → weigh f held ≡ weigh f (take (suc j) recent)
 
+pub plain-fresh : (j : ℕ) → Plain j [] [] []
+plain-fresh j = record { rising = tt; same = λ f. refl }
+
 module _ (j : ℕ) (past held recent : List ℕ) (c : Plain j past held recent) where
   long : length held ≡ length (take (suc j) recent)
   long = omega (arith, weigh-ones held, c .same (λ x. 1), weigh-ones (take (suc j) recent))
