@@ -1,12 +1,12 @@
 -- The pager of bottom l and the census, call by call: what holds between them before a call holds after it.
-use mathlib.Core.Path.{_≡_, refl, sym, _∙_, ap}
+use mathlib.Core.Path.{_≡_, refl, sym, ap}
 use mathlib.Core.List.{List, [], _∷_}
-use mathlib.Core.Logic.{_⊎_, inl, inr}
-use mathlib.Core.Bool.{Bool, true, false, cond, not, _&&_}
+use mathlib.Core.Logic.{inl, inr}
+use mathlib.Core.Bool.{Bool, true, cond, not, _&&_}
 use Prim.Native.Nat.{ℕ, min, _+_, _-_, _≤_, _<_, zero-le}
 use native.Mathlib.Omega.{arith}
-use lib.Dec.{eqb, ltb}
-use lib.ListN.{length, take, drop}
+use lib.Dec.{eqb}
+use lib.ListN.{length, take}
 use Rattle.std.specs.declared.option.Option.{Option}
 use Rattle.std.specs.declared.option.Option.the-variants.{Some, None}
 use Rattle.std.specs.shelf.Lists.{All}
@@ -15,14 +15,14 @@ use Rattle.std.proofs.shelf.Tests.{cases-lt, le-ltb}
 use Rattle.lists.specs.Weights.{weigh, one, occ, has, total}
 use Rattle.lists.specs.Places.{place}
 use Rattle.lists.proofs.Weights.{eqb-cases, weigh-parts}
-use Rattle.lists.proofs.Totals.{total-add, total-same, total-zero, total-but, total-occ}
+use Rattle.lists.proofs.Totals.{total-add, total-zero, total-but, total-occ}
 use Rattle.lists.proofs.Places.{place-none}
 use Rattle.model.specs.declared.UseKind.the-variants.{Read, Write}
 use Rattle.model.specs.declared.Call.{Call}
 use Rattle.model.specs.declared.Call.the-variants.{Use, Settle}
-use Rattle.model.specs.Order.{Rule, Order, used, depthOf}
+use Rattle.model.specs.Order.{Rule, Order, used}
 use Rattle.model.specs.Sound.{Sound}
-use Rattle.model.specs.Windows.{raised, watched, isOpen, over, shallow, noted}
+use Rattle.model.specs.Windows.{watched, isOpen, over, shallow, noted}
 use Rattle.model.specs.Ledger.{Ledger, unseen, shownRead, shownWrite, shownSettle, shownAll}
 use Rattle.model.specs.Rows.{above, rowFetches, rowFaults, rowReclaims, rowSaves, pagesUsed}
 use Rattle.model.specs.Pager.{cut, evicted, fault, Pager, pagerFresh, pagerRead, pagerWrite, pagerSettle, pagerRun}
@@ -100,7 +100,6 @@ module _ (r : Rule) (n k l p : ℕ) (o : Order) (so : Sound n k o) (slots : r .s
     ]
 
 module _ (r : Rule) (n k l : ℕ) (slots : (state : ℕ) → r .slot state k < k) where
-
   step-read : (p : ℕ) → p < n → (s : Pager) (b : Ledger) → Agrees n k l s b → Agrees n k l (pagerRead r k l p s) (shownRead r k p b)
   step-read p low s b a = record {
     order = rw (a .order) (cut-used r k l p (b .order));

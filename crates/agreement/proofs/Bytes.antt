@@ -1,19 +1,18 @@
 -- The bytes of a pager, deed by deed, against the byte book.
-use mathlib.Core.Path.{_≡_, refl, sym, _∙_, ap}
+use mathlib.Core.Path.{_≡_, refl, sym}
 use mathlib.Core.List.{List, [], _∷_}
-use mathlib.Core.Logic.{_⊎_, inl, inr, _≢_}
-use mathlib.Core.Bool.{Bool, true, false, cond, not, _&&_, _||_}
-use Prim.Native.Nat.{ℕ, _+_, _≤_, _<_, zero-le}
+use mathlib.Core.Logic.{inl, inr, _≢_}
+use mathlib.Core.Bool.{true, false, cond, not}
+use Prim.Native.Nat.{ℕ, _+_, _<_}
 use native.Mathlib.Omega.{arith}
-use lib.Dec.{eqb, ltb}
-use lib.ListN.{length, take, drop}
+use lib.Dec.{eqb}
 use Rattle.std.specs.shelf.Lists.{All}
-use Rattle.std.proofs.shelf.Tests.{cases-bool, both-ways, eq-eqb, lt-ltb, ltb-false, and-parts, not-true}
+use Rattle.std.proofs.shelf.Tests.{cases-bool, both-ways, eq-eqb, ltb-false, and-parts, not-true}
 use Rattle.lists.specs.Weights.{one, occ, has}
-use Rattle.lists.proofs.Weights.{eqb-cases, ltb-cases, weigh-parts}
-use Rattle.model.specs.Order.{Rule, Order, used}
+use Rattle.lists.proofs.Weights.{eqb-cases, weigh-parts}
+use Rattle.model.specs.Order.{Rule, used}
 use Rattle.model.specs.Sound.{Sound}
-use Rattle.model.specs.Pager.{cut, holds, evicted, stillDirty, pagerFresh}
+use Rattle.model.specs.Pager.{cut, holds, evicted, stillDirty}
 use Rattle.model.specs.Bytes.{Deed, reads, writes, settles, Paged, pagedFresh, savedBelow, pagedRead, pagedWrite, pagedSettle, pagedRun, given, bookStep, bookRun}
 use Rattle.model.proofs.Uses.{sound-fresh, sound-used, used-in}
 use Rattle.agreement.proofs.Moves.{sound-cut, others}

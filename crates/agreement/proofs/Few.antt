@@ -1,8 +1,8 @@
 -- No row counts more faults or saves than there were calls, and none more than the row before it.
-use mathlib.Core.Path.{_≡_, refl, sym, _∙_, ap}
+use mathlib.Core.Path.{_≡_, refl, sym}
 use mathlib.Core.List.{List, [], _∷_}
-use mathlib.Core.Logic.{_⊎_, inl, inr}
-use mathlib.Core.Bool.{Bool, true, false, cond}
+use mathlib.Core.Logic.{inl, inr}
+use mathlib.Core.Bool.{cond}
 use Prim.Native.Nat.{ℕ, _+_, _≤_, _<_, zero-le}
 use native.Mathlib.Omega.{arith}
 use lib.Dec.{eqb, ltb}
@@ -11,7 +11,7 @@ use Rattle.std.specs.declared.option.Option.{Option}
 use Rattle.std.specs.declared.option.Option.the-variants.{Some, None}
 use Rattle.std.specs.shelf.Lists.{All}
 use Rattle.std.proofs.shelf.Tests.{lt-ltb, eq-eqb}
-use Rattle.lists.specs.Weights.{weigh, one, total}
+use Rattle.lists.specs.Weights.{one, total}
 use Rattle.lists.specs.Places.{place}
 use Rattle.lists.proofs.Weights.{eqb-cases, ltb-cases, weigh-le}
 use Rattle.lists.proofs.Totals.{total-same, total-zero, total-le, total-but}

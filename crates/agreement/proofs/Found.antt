@@ -1,16 +1,14 @@
 -- A use is a fault or a reclaim of the pager of bottom l by the depth at which the census found the page.
-use mathlib.Core.Path.{_≡_, refl, sym, _∙_, ap}
-use mathlib.Core.List.{List, [], _∷_}
+use mathlib.Core.Path.{_≡_, refl}
+use mathlib.Core.List.{List}
 use mathlib.Core.Logic.{_⊎_, inl, inr}
-use mathlib.Core.Bool.{Bool, true, false, cond, not, _&&_, _||_}
+use mathlib.Core.Bool.{true, false}
 use Prim.Native.Nat.{ℕ, _+_, _≤_, _<_, zero-le}
 use native.Mathlib.Omega.{arith}
 use lib.Dec.{eqb, ltb}
-use lib.ListN.{take, drop}
-use Rattle.std.specs.declared.option.Option.{Option}
-use Rattle.std.specs.declared.option.Option.the-variants.{Some, None}
+use lib.ListN.{take}
 use Rattle.std.proofs.shelf.Tests.{lt-ltb, le-ltb}
-use Rattle.lists.specs.Weights.{weigh, one, occ, has}
+use Rattle.lists.specs.Weights.{one, occ}
 use Rattle.lists.specs.Places.{place}
 use Rattle.lists.proofs.Weights.{ltb-cases, weigh-parts}
 use Rattle.lists.proofs.Places.{beyond, place-some}

@@ -1,9 +1,9 @@
 -- The law over runs, from what each call keeps.
 use mathlib.Core.Path.{_≡_, refl, sym, _∙_, ap}
 use mathlib.Core.List.{List, [], _∷_}
-use mathlib.Core.Logic.{_⊎_, inl, inr}
-use mathlib.Core.Bool.{Bool, true, false, cond, _&&_}
-use Prim.Native.Nat.{ℕ, min, _+_, _-_, _%_, _≤_, _<_, zero-le}
+use mathlib.Core.Logic.{inl, inr}
+use mathlib.Core.Bool.{_&&_}
+use Prim.Native.Nat.{ℕ, _+_, _-_, _≤_, _<_, zero-le}
 use native.Mathlib.Omega.{arith}
 use lib.Dec.{eqb, ltb}
 use lib.ListN.{length}
@@ -12,9 +12,9 @@ use Rattle.std.proofs.shelf.Tests.{cases-bool, and-parts, ltb-true}
 use Rattle.lists.proofs.Weights.{ltb-cases}
 use Rattle.model.specs.Order.{Rule}
 use Rattle.model.specs.Ledger.{Ledger, unseen, shownAll}
-use Rattle.model.specs.Rows.{wrapped, rowFaults, rowSaves, pagesUsed}
-use Rattle.model.specs.Pager.{Pager, pagerFresh, pagerRun}
-use Rattle.model.specs.Bytes.{Deed, reads, writes, settles, callOf, shownOf, accepts, accepted, Paged, pagedFresh, pagedRead, pagedWrite, pagedSettle, pagedRun, bookRun}
+use Rattle.model.specs.Rows.{wrapped}
+use Rattle.model.specs.Pager.{pagerFresh, pagerRun}
+use Rattle.model.specs.Bytes.{Deed, reads, writes, settles, shownOf, accepts, accepted, Paged, pagedFresh, pagedRead, pagedWrite, pagedSettle, pagedRun, bookRun}
 use Rattle.model.specs.Lru.{lruFaults}
 use Rattle.agreement.specs.Law.{Agree, Agreement}
 use Rattle.agreement.proofs.Agrees.{Fits, Agrees, agrees-run, agrees-fresh, evictions-are}
@@ -29,7 +29,7 @@ pager-of r n k l w (reads p ∷ ds) = pager-of r n k l (pagedRead r k l p w) ds
 pager-of r n k l w (writes p bytes ∷ ds) = pager-of r n k l (pagedWrite r k l p bytes w) ds
 pager-of r n k l w (settles ∷ ds) = pager-of r n k l (pagedSettle n w) ds
 
-accepted-within : (n : ℕ) (ds : List Deed) → All (Within n) (accepted n ds)
+pub accepted-within : (n : ℕ) (ds : List Deed) → All (Within n) (accepted n ds)
 accepted-within n [] = tt
 accepted-within n (reads p ∷ ds) = elim (ltb-cases p n) [
   | inl y ↦ rw (y .1) (y .0, accepted-within n ds)
@@ -48,7 +48,7 @@ accepted-fewer n (d ∷ ds) = elim (cases-bool (accepts n d)) [
   | inr m ↦ rw m (omega (arith, accepted-fewer n ds))
 ]
 
-shown-fits : (n : ℕ) (ds : List Deed) → All (Within n) ds → All (Fits n) (shownOf ds)
+pub shown-fits : (n : ℕ) (ds : List Deed) → All (Within n) ds → All (Fits n) (shownOf ds)
 shown-fits n [] h = tt
 shown-fits n (reads p ∷ ds) h = (h .0, shown-fits n ds (h .1))
 shown-fits n (writes p bytes ∷ ds) h = (h .0, shown-fits n ds (h .1))
@@ -56,7 +56,7 @@ shown-fits n (settles ∷ ds) h = (tt, shown-fits n ds (h .1))
 
 -- The parts, joined: so few calls were made that no count has wrapped.
 join : (r : Rule) (n k l : ℕ) → ((state : ℕ) → r .slot state k < k) → (w : Paged) (b : Ledger) (lru : ℕ) (book : ℕ → List ℕ) →
-  Agrees n k l (w .pager) b → Few n b → Kept n k w book → b .calls ≤ 4294967295 → lru ≤ 4294967295 → w .pager .faults ≤ lru → (k ≡ 1 → w .pager .faults ≡ lru) → Agree r n k l w b lru book
+    Agrees n k l (w .pager) b → Few n b → Kept n k w book → b .calls ≤ 4294967295 → lru ≤ 4294967295 → w .pager .faults ≤ lru → (k ≡ 1 → w .pager .faults ≡ lru) → Agree r n k l w b lru book
 join r n k l slots w b lru book a f c short few under level = record {
   frames-are-first = a .order;
   fetches-are-row = ap wrapped (a .fetches);
@@ -76,12 +76,12 @@ pub agreement : Agreement
 agreement r n k l told first pos slots deeds short =
     let calls = shownOf (accepted n deeds) in
     join r n k l slots (pagedRun r n k l (pagedFresh told first) (accepted n deeds)) (shownAll r n k (unseen told) calls) (lruFaults (l + 1) calls) (bookRun first (accepted n deeds))
-      (rw (pager-of r n k l (pagedFresh told first) (accepted n deeds)) (agrees-run r n k l slots (pagerFresh told) (unseen told) (agrees-fresh n k l told) calls fits))
-      (few-run r n k (unseen told) (few-fresh n told) calls fits)
-      (kept-run r n k l slots (pagedFresh told first) first (kept-fresh n k told first) (accepted n deeds) (accepted-within n deeds))
-      (omega (arith, calls-run r n k (unseen told) calls, accepted-fewer n deeds))
-      (omega (arith, lru-few (l + 1) [] [] calls, accepted-fewer n deeds))
-      (rw (pager-of r n k l (pagedFresh told first) (accepted n deeds)) (under-lru r n k l slots told calls))
-      (rw (pager-of r n k l (pagedFresh told first) (accepted n deeds)) (λ i. level-lru r n k l slots i told calls)) where
-        fits : All (Fits n) (shownOf (accepted n deeds))
-        fits = shown-fits n (accepted n deeds) (accepted-within n deeds)
+    (rw (pager-of r n k l (pagedFresh told first) (accepted n deeds)) (agrees-run r n k l slots (pagerFresh told) (unseen told) (agrees-fresh n k l told) calls fits))
+    (few-run r n k (unseen told) (few-fresh n told) calls fits)
+    (kept-run r n k l slots (pagedFresh told first) first (kept-fresh n k told first) (accepted n deeds) (accepted-within n deeds))
+    (omega (arith, calls-run r n k (unseen told) calls, accepted-fewer n deeds))
+    (omega (arith, lru-few (l + 1) [] [] calls, accepted-fewer n deeds))
+    (rw (pager-of r n k l (pagedFresh told first) (accepted n deeds)) (under-lru r n k l slots told calls))
+    (rw (pager-of r n k l (pagedFresh told first) (accepted n deeds)) (λ i. level-lru r n k l slots i told calls)) where
+      fits : All (Fits n) (shownOf (accepted n deeds))
+      fits = shown-fits n (accepted n deeds) (accepted-within n deeds)

@@ -8,3 +8,5 @@ pub mod Recency
 pub mod Plain
 pub mod Lru
 pub mod Joined
+pub mod Bigger
+pub mod Cases

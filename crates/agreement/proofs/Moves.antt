@@ -1,15 +1,15 @@
 -- What one use does to an order without limit and to the same order cut after the first l of its bottom.
 use mathlib.Core.Path.{_≡_, refl, sym, _∙_, ap}
-use mathlib.Core.List.{List, [], _∷_, _++_}
-use mathlib.Core.Logic.{_⊎_, inl, inr, _≢_}
-use mathlib.Core.Bool.{Bool, true, false, cond}
-use Prim.Native.Nat.{ℕ, zero, suc, _+_, _≤_, _<_, zero-le}
+use mathlib.Core.List.{List, [], _∷_}
+use mathlib.Core.Logic.{inl, inr, _≢_}
+use mathlib.Core.Bool.{cond}
+use Prim.Native.Nat.{ℕ, zero, suc, _+_, _<_}
 use native.Mathlib.Omega.{arith}
-use lib.Dec.{eqb, ltb}
-use lib.ListN.{length, getD, set, take, drop}
+use lib.Dec.{eqb}
+use lib.ListN.{length, getD, take, drop}
 use Rattle.std.proofs.shelf.Lists.{length-append, length-set, length-take, take-take, drop-all}
-use Rattle.std.proofs.shelf.Tests.{cases-lt, lt-ltb, le-ltb, eq-eqb, ne-eqb}
-use Rattle.lists.specs.Weights.{weigh, one, occ, has}
+use Rattle.std.proofs.shelf.Tests.{ne-eqb}
+use Rattle.lists.specs.Weights.{weigh, one, occ}
 use Rattle.lists.specs.Places.{without}
 use Rattle.lists.proofs.Weights.{eqb-cases, ltb-cases, weigh-push, weigh-set, weigh-parts, weigh-without, without-none, occ-without}
 use Rattle.model.specs.Order.{Rule, Order, fresh, used}
@@ -99,12 +99,12 @@ module _ (r : Rule) (n k p : ℕ) (o : Order) (s : Sound n k o) (slots : r .slot
     | inr h ↦ rw (h .1) (elim (ltb-cases (length (o .top)) k) [
       | inl y ↦ rw (y .1, drop-of-take l (o .bottom)) z
       | inr m ↦ rw (m .1) (
-        let out = getD (o .top) (r .slot (o .told) k) 0 in
-        let same : occ q (take l (out ∷ without p (take l (o .bottom)))) ≡ occ q (take l (out ∷ without p (o .bottom))) = ap (occ q) (inclusion l p out (o .bottom)) in
-        let a = occ-without q p (o .bottom) (once-bottom s p) in
-        let b = occ-without q p (take l (o .bottom)) (once-bottom (sound-cut n k l o s) p) in
-        let e : occ q (o .bottom) ≡ occ q (take l (o .bottom)) = omega (arith, weigh-parts (λ x. one (eqb x q)) l (o .bottom)) in
-        let ab : occ q (without p (o .bottom)) ≡ occ q (without p (take l (o .bottom))) = a ∙ ap (λ i. cond (eqb p q) 0 i) e ∙ sym b in
-        omega (arith, weigh-parts (λ x. one (eqb x q)) l (out ∷ without p (o .bottom)), weigh-parts (λ x. one (eqb x q)) l (out ∷ without p (take l (o .bottom)))))
+          let out = getD (o .top) (r .slot (o .told) k) 0 in
+          let same : occ q (take l (out ∷ without p (take l (o .bottom)))) ≡ occ q (take l (out ∷ without p (o .bottom))) = ap (occ q) (inclusion l p out (o .bottom)) in
+          let a = occ-without q p (o .bottom) (once-bottom s p) in
+          let b = occ-without q p (take l (o .bottom)) (once-bottom (sound-cut n k l o s) p) in
+          let e : occ q (o .bottom) ≡ occ q (take l (o .bottom)) = omega (arith, weigh-parts (λ x. one (eqb x q)) l (o .bottom)) in
+          let ab : occ q (without p (o .bottom)) ≡ occ q (without p (take l (o .bottom))) = a ∙ ap (λ i. cond (eqb p q) 0 i) e ∙ sym b in
+          omega (arith, weigh-parts (λ x. one (eqb x q)) l (out ∷ without p (o .bottom)), weigh-parts (λ x. one (eqb x q)) l (out ∷ without p (take l (o .bottom)))))
     ])
   ]

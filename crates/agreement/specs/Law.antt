@@ -36,8 +36,8 @@ pub record Agree (r : Rule) (n k l : ℕ) (w : Paged) (b : Ledger) (lru : ℕ) (
 -- A list may end anywhere, so this holds before each read and each settle of a longer one too.
 abbrev pub Agreement : Type 0
 Agreement = (r : Rule) (n k l told : ℕ) (first : ℕ → List ℕ) → 0 < k → ((state : ℕ) → r .slot state k < k) →
-  (deeds : List Deed) → length deeds ≤ 4294967295 →
-  Agree r n k l
+    (deeds : List Deed) → length deeds ≤ 4294967295 →
+    Agree r n k l
     (pagedRun r n k l (pagedFresh told first) (accepted n deeds))
     (shownAll r n k (unseen told) (shownOf (accepted n deeds)))
     (lruFaults (l + 1) (shownOf (accepted n deeds)))

@@ -1,5 +1,7 @@
+use mathlib.Core.Path.{refl}
 use Rattle.agreement.proofs.Joined.{agreement}
+use Rattle.agreement.proofs.Bigger.{bigger-holds}
 use Rattle.agreement.proofs.agreement_stands.Needs as need
 
 pub returns : need.returns
-returns c = agreement
+returns c = record { answer = refl; law = agreement; bigger = bigger-holds }
