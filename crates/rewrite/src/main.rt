@@ -25,9 +25,16 @@ fn rewrite(rt: &LibcRuntime, recording: &[u8], count: usize) -> Result<(), AnyEr
         Ok(length) => {
             let written = &buffer[..length];
             rt.stdout().write_all(written)?;
-            let same = if written == recording { "the same" } else { "other" };
+            let same = if written == recording {
+                "the same"
+            } else {
+                "other"
+            };
             let read = recording.len();
-            eprintln!(rt, "{read} bytes read, {length} written, {count} calls: {same} bytes")?;
+            eprintln!(
+                rt,
+                "{read} bytes read, {length} written, {count} calls: {same} bytes"
+            )?;
         }
         Err(fault) => print_fault(rt, &fault)?,
     }

@@ -92,10 +92,12 @@ rule-clean r (inr e) = λ f. omega arith
 
 pub header-clean : (h : Header) → HeaderFit h → h .seed < 2 ^ 32 → All NotTen (header-line h)
 header-clean h fit small =
-    let a = fit .pages in let b = fit .top in
-    (λ e. omega arith, all-append NotTen (justified 5 (h .pages)) (justified 3 (h .top) ++ (h .rule ∷ justified 10 (h .seed))) (justified-clean 5 (h .pages) (omega arith))
-    (all-append NotTen (justified 3 (h .top)) (h .rule ∷ justified 10 (h .seed)) (justified-clean 3 (h .top) (omega arith))
-    (rule-clean (h .rule) (fit .rule), justified-clean 10 (h .seed) small)))
+    let a = fit .pages in let b = fit .top in (
+      λ e. omega arith,
+      all-append NotTen (justified 5 (h .pages)) (justified 3 (h .top) ++ (h .rule ∷ justified 10 (h .seed))) (justified-clean 5 (h .pages) (omega arith))
+          (all-append NotTen (justified 3 (h .top)) (h .rule ∷ justified 10 (h .seed)) (justified-clean 3 (h .top) (omega arith))
+          (rule-clean (h .rule) (fit .rule), justified-clean 10 (h .seed) small)),
+    )
 
 -- The line of a use and that of a settle.
 pub use-line : (c : CallRecord) → (c .letter ≡ 82) ⊎ (c .letter ≡ 87) → call-line c ≡ c .letter ∷ justified 5 (c .page)

@@ -44,13 +44,15 @@ read-at bs table s (Ok r) e is = elim (cases-lt (length table) (length (r .calls
   | inr fits ↦
       let no = le-ltb (length table) (length (r .calls)) fits in
       let f = cond-false (ltb (length table) (length (r .calls))) (Err TableShort) (Ok (summary-of r)) no in
-      let same : s ≡ summary-of r = cc in
-      (r .calls, record {
-        says = e ∙ ap (λ h. Ok (record { header = h; calls = r .calls })) (sym (ap (λ (t : Summary). t .header) same));
-        count = ap (λ (t : Summary). t .calls) same;
-        room = fits;
-        holds = ap (filled table) e ∙ cond-false (ltb (length table) (length (r .calls))) _ _ no;
-      })
+      let same : s ≡ summary-of r = cc in (
+        r .calls,
+        record {
+          says = e ∙ ap (λ h. Ok (record { header = h; calls = r .calls })) (sym (ap (λ (t : Summary). t .header) same));
+          count = ap (λ (t : Summary). t .calls) same;
+          room = fits;
+          holds = ap (filled table) e ∙ cond-false (ltb (length table) (length (r .calls))) _ _ no;
+        },
+      )
 ]
 read-at bs table s (Err x) e is = absurd (let z : _≡_ {A = ℕ} 0 1 = cc in omega arith)
 

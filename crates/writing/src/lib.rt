@@ -116,11 +116,7 @@ fn call_length(call: CallRecord) -> usize
     requires { ⌜ Narrow call ⌝ }
     ensures { λ r. ⌜ r ≡ length (call-text call) ⌝ }
 {
-    if call.letter == b'S' {
-        2
-    } else {
-        7
-    }
+    if call.letter == b'S' { 2 } else { 7 }
 }
 
 // How long a recording with these calls is, if that is not too long.
@@ -184,7 +180,11 @@ pub fn write(header: Header, calls: &[CallRecord], buffer: &mut [u8]) -> Result<
 }
 
 // Reads a recording into the table, and writes what it says into the buffer.
-fn read_and_write(bytes: &[u8], calls: &mut [CallRecord], buffer: &mut [u8]) -> Result<usize, RunFault>
+fn read_and_write(
+    bytes: &[u8],
+    calls: &mut [CallRecord],
+    buffer: &mut [u8],
+) -> Result<usize, RunFault>
     ensures answer { λ r. ⌜ r ≡ rewrite-recording (now (bytes .entry)) (length (now (calls .entry))) (length (now (buffer .entry))) ⌝ }
     ensures table { λ r. ⌜ now (calls .exit) ≡ if-accepted r (table-after (now (bytes .entry)) (now (calls .entry))) (now (calls .entry)) ⌝ }
     ensures buffer { λ r. ⌜ now (buffer .exit) ≡ if-accepted r (text-first (now (bytes .entry)) (now (buffer .entry))) (now (buffer .entry)) ⌝ }

@@ -26,9 +26,10 @@ add-at c = omega (arith, c .put-call-at .ensures .length, c .loop-call .inv .0, 
 
 pub loop-call-again : need.loop-call-again
 loop-call-again c = (
-    omega (arith, c .put-call-at .ensures .length, c .loop-call .inv .0, length-more (c .args .calls .now) (c .loop-call .call-index) (record { letter = 0; page = 0 }) (c .loop-call-test .taken)),
-    put-on (calls-text (take (c .loop-call .call-index) (c .args .calls .now))) _ (c .args .bytes .now) (c .loop-call .bytes) _ (c .loop-call .at) (c .loop-call .inv .0) (c .loop-call .inv .1) (c .put-call-at .ensures .bytes)
-    ∙ ap (λ t. text-first t (c .args .bytes .now)) (sym (text-more (c .args .calls .now) (c .loop-call .call-index) _ (c .loop-call-test .taken))))
+  omega (arith, c .put-call-at .ensures .length, c .loop-call .inv .0, length-more (c .args .calls .now) (c .loop-call .call-index) (record { letter = 0; page = 0 }) (c .loop-call-test .taken)),
+  put-on (calls-text (take (c .loop-call .call-index) (c .args .calls .now))) _ (c .args .bytes .now) (c .loop-call .bytes) _ (c .loop-call .at) (c .loop-call .inv .0) (c .loop-call .inv .1) (c .put-call-at .ensures .bytes)
+      ∙ ap (λ t. text-first t (c .args .bytes .now)) (sym (text-more (c .args .calls .now) (c .loop-call .call-index) _ (c .loop-call-test .taken))),
+)
 
 pub returns : need.returns
 returns c = c .loop-call .inv .1 ∙ ap (λ t. text-first t (c .args .bytes .now)) (text-all (c .args .calls .now) (c .loop-call .call-index) (omega arith))
