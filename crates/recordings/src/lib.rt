@@ -19,7 +19,7 @@ pub enum RunFault {
     Line(LineFault),
     // It has more than 60,000 bytes.
     TooLong,
-    // The caller's table is too short.
+    // The caller's table or buffer is too short.
     TableShort,
 }
 

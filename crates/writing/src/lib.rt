@@ -1,8 +1,7 @@
 // A recording written from its header and its calls.
 ghost use mathlib.Core.Path.{_≡_};
-ghost use mathlib.Core.List.{_++_};
 ghost use Prim.Native.Nat.{_+_, _≤_};
-ghost use lib.ListN.{length, drop};
+ghost use lib.ListN.{length};
 ghost use Rattle.std.specs.Results.{mapped};
 ghost use Rattle.std.specs.Written.{decimal};
 ghost use Rattle.std.specs.shelf.Lists.{All};
@@ -79,26 +78,25 @@ fn put_call(call: CallRecord, bytes: &mut [u8]) -> usize
 fn check_call(line: usize, pages: u32, call: CallRecord) -> Result<(), LineFault>
     ensures { λ r. ⌜ r ≡ call-in-range line pages call ⌝ }
 {
-    let (known, fits) = match call.letter {
-        b'R' | b'W' => (true, call.page < pages),
-        b'S' => (true, call.page == 0),
-        _ => (false, false),
+    let fits = match call.letter {
+        b'R' | b'W' => call.page < pages,
+        b'S' => call.page == 0,
+        _ => {
+            return Err(LineFault::Shape {
+                problem: LineProblem::UnknownLetter,
+                line,
+                column: 1,
+            });
+        }
     };
-    if !known {
-        return Err(LineFault::Shape {
-            problem: LineProblem::UnknownLetter,
-            line,
-            column: 1,
-        });
+    if fits {
+        return Ok(());
     }
-    if !fits {
-        return Err(LineFault::Shape {
-            problem: LineProblem::NoSuchPage,
-            line,
-            column: 6,
-        });
-    }
-    Ok(())
+    Err(LineFault::Shape {
+        problem: LineProblem::NoSuchPage,
+        line,
+        column: 6,
+    })
 }
 
 // Whether every call can stand in a recording of `pages` pages; the first stands on line 2.
@@ -179,7 +177,8 @@ pub fn write(header: Header, calls: &[CallRecord], buffer: &mut [u8]) -> Result<
     put_recording(header, calls, buffer)
 }
 
-// Reads a recording into the table, and writes what it says into the buffer.
+// Reads a recording into the table, and writes what it says into the buffer. The text is as long as
+// the bytes, so that a buffer that is too short is known before anything is written.
 fn read_and_write(
     bytes: &[u8],
     calls: &mut [CallRecord],
