@@ -11,7 +11,7 @@ use Rattle.std.specs.Holes.{between}
 use Rattle.std.specs.Written.{decimal}
 use Rattle.std.specs.shelf.Lists.{All}
 use Rattle.std.specs.declared.result.Result.the-variants.{Ok, Err}
-use Rattle.std.proofs.shelf.Decimals.{digits-decimal, length-decimal-le}
+use Rattle.std.proofs.shelf.Decimals.{digits-decimal}
 use Rattle.std.proofs.shelf.Elements.{all-append, all-from-getD}
 use Rattle.std.proofs.shelf.Lists.{length-append, length-replicate, getD-replicate, getD-at, take-at, take-all, drop-at, drop-drop}
 use Rattle.std.proofs.shelf.Tests.{cond-true, cond-false, eq-eqb, ne-eqb, lt-ltb}
@@ -30,7 +30,7 @@ use Rattle.lines.specs.Calls.{call-from, call-of}
 use Rattle.lines.specs.Fit.{HeaderFit, CallFit}
 use Rattle.recordings.specs.Recorded.{Lines, Recorded}
 use Rattle.writing.specs.Text.{header-line, call-line, calls-text, text-of}
-use Rattle.writing.proofs.Widths.{justified-length, Narrows, narrows}
+use Rattle.writing.proofs.Widths.{justified-length, narrows}
 use Rattle.writing.proofs.Fits.{fit-header, call-narrow}
 use Rattle.writing.proofs.Written.{Written}
 

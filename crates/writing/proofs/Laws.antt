@@ -24,7 +24,7 @@ use Rattle.recordings.proofs.Fits.{recorded-header, recorded-calls}
 use Rattle.writing.specs.Text.{text-of, text-first}
 use Rattle.writing.specs.Whole.{written-text, text-fitted, write-recording, text-filled, buffer-after}
 use Rattle.writing.specs.Laws.{Says, ReadsBack, SameAgain, OnlyWritten}
-use Rattle.writing.proofs.Written.{Written, written, written-is}
+use Rattle.writing.proofs.Written.{written, written-is}
 use Rattle.writing.proofs.Backs.{text-recorded}
 use Rattle.writing.proofs.Shapes.{recorded-is}
 

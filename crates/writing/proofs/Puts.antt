@@ -1,16 +1,16 @@
 -- Lines put at the front of some bytes, part by part.
 use mathlib.Core.Path.{_≡_, refl, sym, ap, _∙_}
 use mathlib.Core.List.{List, [], _∷_, _++_, append-assoc}
-use Prim.Native.Nat.{ℕ, _+_, _-_, _^_, _<_, _≤_}
+use Prim.Native.Nat.{ℕ, _+_, _-_, _<_, _≤_}
 use native.Mathlib.Omega.{arith}
 use borrow.Rule.Slice.PartMut.{putMid}
-use lib.ListN.{length, getD, take, drop, set}
+use lib.ListN.{length, getD, drop, set}
 use Rattle.std.proofs.shelf.Lists.{length-append, take-at, drop-at, drop-drop, drop-more, set-at}
 use Rattle.fields.specs.Justified.{justified}
 use Rattle.lines.specs.declared.Header.{Header}
 use Rattle.lines.specs.declared.CallRecord.{CallRecord}
 use Rattle.writing.specs.Text.{header-text, call-text, text-first, Narrow}
-use Rattle.writing.proofs.Widths.{justified-length, Narrows, line-of, header-length, use-text, settle-text}
+use Rattle.writing.proofs.Widths.{justified-length, Narrows, line-of, header-length, use-text}
 
 -- One byte more, after those that are put.
 put-byte : (done xs : List ℕ) (a b y : ℕ) → length done ≡ a → a < length xs → a + 1 ≡ b → set (done ++ drop a xs) a y ≡ (done ++ y ∷ []) ++ drop b xs
@@ -68,9 +68,3 @@ use-put c xs p n other room a =
     let same : c .letter ∷ (p ++ 10 ∷ []) ≡ call-text c = ap (λ z. c .letter ∷ (z ++ 10 ∷ [])) a ∙ sym (use-text c other) in
     let seven : length (c .letter ∷ (p ++ 10 ∷ [])) ≡ 7 = omega (arith, length-append p (10 ∷ [])) in
     e₃ ∙ ap (λ k. (c .letter ∷ (p ++ 10 ∷ [])) ++ drop k xs) (sym seven) ∙ ap (λ z. text-first z xs) same
-
--- The line of a settle.
-pub settle-put : (c : CallRecord) (xs : List ℕ) → c .letter ≡ 83 → 2 ≤ length xs → set (set xs 0 (c .letter)) 1 10 ≡ text-first (call-text c) xs
-settle-put c xs e room =
-    ap (λ z. set z 1 10) (put-first-byte xs (c .letter) (omega arith)) ∙ put-byte (c .letter ∷ []) xs 1 2 10 refl (omega arith) refl
-    ∙ ap (λ l. l ∷ 10 ∷ drop 2 xs) e ∙ ap (λ z. text-first z xs) (sym (settle-text c e))

@@ -1,10 +1,10 @@
 -- Lines that are read are the lines that are written.
 use mathlib.Core.Path.{_≡_, refl, sym, ap, _∙_}
 use mathlib.Core.List.{List, [], _∷_, _++_, append-assoc}
-use mathlib.Core.Logic.{_⊎_, inl, inr}
-use Prim.Native.Nat.{ℕ, _+_, _<_, _≤_}
+use mathlib.Core.Logic.{_⊎_}
+use Prim.Native.Nat.{ℕ, _+_}
 use native.Mathlib.Omega.{arith}
-use lib.ListN.{length, getD, take, drop}
+use lib.ListN.{length, getD, drop}
 use Rattle.std.specs.Holes.{between}
 use Rattle.std.specs.declared.result.Result.the-variants.{Ok}
 use Rattle.std.proofs.shelf.Edits.{length-between}
@@ -19,8 +19,8 @@ use Rattle.lines.specs.Cuts.{columns, cut-line}
 use Rattle.lines.specs.Headers.{number-in, in-range, header-from, header-of}
 use Rattle.lines.specs.Calls.{call-from, call-of}
 use Rattle.lines.proofs.Fits.{number-there, parts-there}
-use Rattle.recordings.specs.Recorded.{Ends, Lines, Recorded}
-use Rattle.writing.specs.Text.{header-line, call-line, call-text, header-text, calls-text, text-of}
+use Rattle.recordings.specs.Recorded.{Lines, Recorded}
+use Rattle.writing.specs.Text.{header-line, call-line, calls-text, text-of}
 use Rattle.writing.proofs.Backs.{use-line, settle-line}
 
 -- What a line is that is cut as a header.

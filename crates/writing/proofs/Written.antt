@@ -1,7 +1,6 @@
 -- What is known of a header and calls that are written, and of those that are refused.
 use mathlib.Core.Path.{_≡_, refl, sym, ap, _∙_}
-use mathlib.Core.Bool.{cond}
-use mathlib.Core.List.{List, _++_}
+use mathlib.Core.List.{List}
 use mathlib.Core.Logic.{inl, inr}
 use Prim.Native.Nat.{ℕ, _+_, _^_, _<_, _≤_}
 use native.Mathlib.Omega.{arith}
@@ -19,7 +18,7 @@ use Rattle.lines.specs.declared.LineFault.{LineFault}
 use Rattle.lines.specs.Headers.{in-range}
 use Rattle.lines.specs.Fit.{HeaderFit, CallFit}
 use Rattle.recordings.specs.declared.RunFault.{RunFault}
-use Rattle.recordings.specs.declared.RunFault.the-variants.{Line, TooLong, TableShort}
+use Rattle.recordings.specs.declared.RunFault.the-variants.{Line, TooLong}
 use Rattle.recordings.specs.Whole.{with-line}
 use Rattle.writing.specs.Text.{header-text, calls-text, text-of, text-first}
 use Rattle.writing.specs.Refusals.{calls-in-range}

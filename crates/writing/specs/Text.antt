@@ -17,10 +17,11 @@ header-line h = 72 ∷ (justified 5 (h .pages) ++ (justified 3 (h .top) ++ (h .r
 abbrev pub call-line : CallRecord → List ℕ
 call-line c = cond (eqb (c .letter) 83) (83 ∷ []) (c .letter ∷ justified 5 (c .page))
 
--- Each of them with the byte 10 that ends it.
+-- Line 1 with the byte 10 that ends it.
 abbrev pub header-text : Header → List ℕ
 header-text h = header-line h ++ 10 ∷ []
 
+-- The line of a call with the byte 10 that ends it.
 abbrev pub call-text : CallRecord → List ℕ
 call-text c = call-line c ++ 10 ∷ []
 

@@ -1,14 +1,12 @@
-use mathlib.Core.Path.{_≡_, sym, ap, _∙_}
+use mathlib.Core.Path.{sym, ap, _∙_}
 use Prim.Native.Nat.{_≤_}
 use native.Mathlib.Omega.{arith}
 use borrow.Author.Needs.{needs}
 use lib.ListN.{length}
 use Rattle.std.proofs.shelf.Lists.{places}
-use Rattle.std.proofs.shelf.Ways.{tells}
 use Rattle.fields.specs.Justified.{justified}
-use Rattle.writing.specs.Text.{call-text}
 use Rattle.writing.proofs.Widths.{use-length}
-use Rattle.writing.proofs.Puts.{use-put, settle-put}
+use Rattle.writing.proofs.Puts.{use-put}
 use Rattle.writing.proofs.put_call.Needs as need
 
 pub part-put-number-end : need.part-put-number-end

@@ -1,10 +1,9 @@
-use mathlib.Core.Path.{_≡_, sym, ap, _∙_}
-use Prim.Native.Nat.{_+_, _≤_}
+use mathlib.Core.Path.{sym, ap, _∙_}
+use Prim.Native.Nat.{_+_}
 use native.Mathlib.Omega.{arith}
-use borrow.Author.Needs.{needs}
-use lib.ListN.{length, getD, take}
+use lib.ListN.{length, take}
 use Rattle.std.proofs.shelf.Elements.{all-getD}
-use Rattle.writing.specs.Text.{call-text, calls-text, text-first, Narrow}
+use Rattle.writing.specs.Text.{calls-text, text-first, Narrow}
 use Rattle.writing.proofs.Texts.{text-more, length-more, text-le, text-all, room-left, put-on}
 use Rattle.writing.proofs.put_calls.Needs as need
 
