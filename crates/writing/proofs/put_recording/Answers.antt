@@ -34,7 +34,7 @@ pub returns : need.returns
 returns c =
     let m = measured (c .args .header) (c .args .calls .now) _ (c .in-Continue-length .ensures tt) in
     record {
-      answer = fitted-in (c .args .header) (c .args .calls .now) _ _ m (c .if-buffer-length .left);
+      answer = fitted-in (c .args .header) (c .args .calls .now) _ _ m (omega arith);
       buffer = put-on (header-text (c .args .header)) (calls-text (c .args .calls .now)) (c .args .buffer .now) (c .put-header .last .bytes) _ 21 (sym (header-length (c .args .header) (narrows (c .args .header) (m .fits .header) (omega arith)))) (c .put-header .ensures) (c .put-calls .ensures)
-          ∙ filled-in (c .args .header) (c .args .calls .now) _ (c .args .buffer .now) m (c .if-buffer-length .left);
+          ∙ filled-in (c .args .header) (c .args .calls .now) _ (c .args .buffer .now) m (omega arith);
     }
