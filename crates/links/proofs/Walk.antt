@@ -15,9 +15,9 @@ use Rattle.links.specs.Chain.{Chain}
 use Rattle.links.specs.Stepped.{stepped}
 use Rattle.links.specs.Left.{Left}
 
--- A link read from a record of the table is that of the table's view.
-pub link-read : {X : Type 0} (f : X → Option ℕ) (t : List X) (b : ℕ) (x : X) (next : Option ℕ) → b < length t → x ≡ getD t b x → next ≡ f x → next ≡ getD (map f t) b None
-link-read f t b x next lt e to = to ∙ ap f e ∙ sym (getD-map f t b x None lt)
+-- What is read from a record of the table is that of the table's view.
+pub link-read : {X Y : Type 0} (f : X → Y) (t : List X) (b : ℕ) (x : X) (e found : Y) → b < length t → x ≡ getD t b x → found ≡ f x → found ≡ getD (map f t) b e
+link-read f t b x e found lt is to = to ∙ ap f is ∙ sym (getD-map f t b x e lt)
 
 -- One step more, from where the steps so far have led.
 stepped-suc : (links : List (Option ℕ)) (k : ℕ) (at : Option ℕ) (b : ℕ) → stepped links k at ≡ Some b → stepped links (suc k) at ≡ getD links b None

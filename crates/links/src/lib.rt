@@ -9,6 +9,8 @@ ghost use Prim.Native.Nat.{ℕ, _-_, _<_, _≤_};
 ghost use lib.ListN.{length};
 ghost use Rattle.std.specs.declared.option.Option.{Option};
 ghost use Rattle.std.specs.declared.option.Option.the-variants.{Some, None};
+ghost use Rattle.links.specs.declared.Part.{Part};
+ghost use Rattle.links.specs.declared.Part.the-variants.{Unused};
 ghost use Rattle.lists.specs.Weights.{occ};
 ghost use Rattle.lists.specs.Places.{place};
 ghost use Rattle.links.specs.Chain.{Chain};
@@ -17,18 +19,31 @@ ghost use Rattle.links.specs.Holds.{Holds};
 ghost use Rattle.links.specs.HeldIn.{HeldIn};
 ghost use Rattle.links.specs.Writes.{setLink, endLink};
 
-// A record that has a link to the next and to the previous record of its list.
+// Where a record is.
+#[derive(Clone, Copy)]
+pub enum Part {
+    // in no part
+    Unused,
+    // in a slot of the top
+    Top,
+    // in the bottom, after it left the top
+    Bottom,
+}
+
+// A record that has a link to the next and to the previous record of its list, and the part that it is in.
 pub trait Linked {
     ghost after: { Self → Option ℕ };
 
     ghost before: { Self → Option ℕ };
 
-    // The record with neither link: everything but its links.
-    ghost bare: { Self → Self };
+    ghost within: { Self → Part };
 
-    law none: { (x : Self) → (after (bare x) ≡ None) × (before (bare x) ≡ None) };
+    // The record with neither link and in no part: everything but its links and its part.
+    ghost rest: { Self → Self };
 
-    law whole: { (x y : Self) → after x ≡ after y → before x ≡ before y → bare x ≡ bare y → x ≡ y };
+    law none: { (x : Self) → (after (rest x) ≡ None) × (before (rest x) ≡ None) × (within (rest x) ≡ Unused) };
+
+    law whole: { (x y : Self) → after x ≡ after y → before x ≡ before y → within x ≡ within y → rest x ≡ rest y → x ≡ y };
 
     fn next(&self) -> Option<usize>
         ensures { λ r. ⌜ r ≡ after (now (self .entry)) ⌝ };
@@ -36,7 +51,8 @@ pub trait Linked {
     fn set_next(&mut self, to: Option<usize>)
         ensures after { λ _. ⌜ after (now (self .exit)) ≡ to ⌝ }
         ensures before { λ _. ⌜ before (now (self .exit)) ≡ before (now (self .entry)) ⌝ }
-        ensures bare { λ _. ⌜ bare (now (self .exit)) ≡ bare (now (self .entry)) ⌝ };
+        ensures within { λ _. ⌜ within (now (self .exit)) ≡ within (now (self .entry)) ⌝ }
+        ensures rest { λ _. ⌜ rest (now (self .exit)) ≡ rest (now (self .entry)) ⌝ };
 
     fn prev(&self) -> Option<usize>
         ensures { λ r. ⌜ r ≡ before (now (self .entry)) ⌝ };
@@ -44,7 +60,17 @@ pub trait Linked {
     fn set_prev(&mut self, to: Option<usize>)
         ensures after { λ _. ⌜ after (now (self .exit)) ≡ after (now (self .entry)) ⌝ }
         ensures before { λ _. ⌜ before (now (self .exit)) ≡ to ⌝ }
-        ensures bare { λ _. ⌜ bare (now (self .exit)) ≡ bare (now (self .entry)) ⌝ };
+        ensures within { λ _. ⌜ within (now (self .exit)) ≡ within (now (self .entry)) ⌝ }
+        ensures rest { λ _. ⌜ rest (now (self .exit)) ≡ rest (now (self .entry)) ⌝ };
+
+    fn part(&self) -> Part
+        ensures { λ r. ⌜ r ≡ within (now (self .entry)) ⌝ };
+
+    fn set_part(&mut self, part: Part)
+        ensures after { λ _. ⌜ after (now (self .exit)) ≡ after (now (self .entry)) ⌝ }
+        ensures before { λ _. ⌜ before (now (self .exit)) ≡ before (now (self .entry)) ⌝ }
+        ensures within { λ _. ⌜ within (now (self .exit)) ≡ part ⌝ }
+        ensures rest { λ _. ⌜ rest (now (self .exit)) ≡ rest (now (self .entry)) ⌝ };
 }
 
 // The place of `at` in the list that begins at `first`, counted from 1, and 0 where it is not in it.
@@ -95,7 +121,8 @@ impl Ends {
     fn follow<R: Linked>(&mut self, table: &mut [R], at: Option<usize>, to: Option<usize>)
         ensures after { λ _. ⌜ map (R·Linked .after) (now (table .exit)) ≡ setLink (map (R·Linked .after) (now (table .entry))) at to ⌝ }
         ensures before { λ _. ⌜ map (R·Linked .before) (now (table .exit)) ≡ map (R·Linked .before) (now (table .entry)) ⌝ }
-        ensures bare { λ _. ⌜ map (R·Linked .bare) (now (table .exit)) ≡ map (R·Linked .bare) (now (table .entry)) ⌝ }
+        ensures within { λ _. ⌜ map (R·Linked .within) (now (table .exit)) ≡ map (R·Linked .within) (now (table .entry)) ⌝ }
+        ensures rest { λ _. ⌜ map (R·Linked .rest) (now (table .exit)) ≡ map (R·Linked .rest) (now (table .entry)) ⌝ }
         ensures first { λ _. ⌜ now (self .exit) .first ≡ endLink (now (self .entry) .first) at to ⌝ }
         ensures last { λ _. ⌜ now (self .exit) .last ≡ now (self .entry) .last ⌝ }
     {
@@ -113,7 +140,8 @@ impl Ends {
     fn precede<R: Linked>(&mut self, table: &mut [R], at: Option<usize>, to: Option<usize>)
         ensures after { λ _. ⌜ map (R·Linked .after) (now (table .exit)) ≡ map (R·Linked .after) (now (table .entry)) ⌝ }
         ensures before { λ _. ⌜ map (R·Linked .before) (now (table .exit)) ≡ setLink (map (R·Linked .before) (now (table .entry))) at to ⌝ }
-        ensures bare { λ _. ⌜ map (R·Linked .bare) (now (table .exit)) ≡ map (R·Linked .bare) (now (table .entry)) ⌝ }
+        ensures within { λ _. ⌜ map (R·Linked .within) (now (table .exit)) ≡ map (R·Linked .within) (now (table .entry)) ⌝ }
+        ensures rest { λ _. ⌜ map (R·Linked .rest) (now (table .exit)) ≡ map (R·Linked .rest) (now (table .entry)) ⌝ }
         ensures first { λ _. ⌜ now (self .exit) .first ≡ now (self .entry) .first ⌝ }
         ensures last { λ _. ⌜ now (self .exit) .last ≡ endLink (now (self .entry) .last) at to ⌝ }
     {
@@ -130,7 +158,8 @@ impl Ends {
     // Takes `p` out of the list. A `p` past the table changes nothing.
     pub fn unlink<R: Linked>(&mut self, table: &mut [R], p: usize)
         ensures list { λ _. ⌜ ((xs ys : List ℕ) → HeldIn (R·Linked .after) (R·Linked .before) (now (table .entry)) (now (self .entry)) (xs ++ (p ∷ ys)) → HeldIn (R·Linked .after) (R·Linked .before) (now (table .exit)) (now (self .exit)) (xs ++ ys)) ⌝ }
-        ensures bare { λ _. ⌜ map (R·Linked .bare) (now (table .exit)) ≡ map (R·Linked .bare) (now (table .entry)) ⌝ }
+        ensures within { λ _. ⌜ map (R·Linked .within) (now (table .exit)) ≡ map (R·Linked .within) (now (table .entry)) ⌝ }
+        ensures rest { λ _. ⌜ map (R·Linked .rest) (now (table .exit)) ≡ map (R·Linked .rest) (now (table .entry)) ⌝ }
         ensures past { λ _. ⌜ (length (now (table .entry)) ≤ p → (now (table .exit) ≡ now (table .entry)) × (now (self .exit) ≡ now (self .entry))) ⌝ }
     {
         if p >= table.len() {
@@ -145,7 +174,8 @@ impl Ends {
     // Puts `p`, which is not in the list, in front of it. A `p` past the table changes nothing.
     pub fn push_front<R: Linked>(&mut self, table: &mut [R], p: usize)
         ensures list { λ _. ⌜ ((bs : List ℕ) → HeldIn (R·Linked .after) (R·Linked .before) (now (table .entry)) (now (self .entry)) bs → p < length (now (table .entry)) → occ p bs ≡ 0 → HeldIn (R·Linked .after) (R·Linked .before) (now (table .exit)) (now (self .exit)) (p ∷ bs)) ⌝ }
-        ensures bare { λ _. ⌜ map (R·Linked .bare) (now (table .exit)) ≡ map (R·Linked .bare) (now (table .entry)) ⌝ }
+        ensures within { λ _. ⌜ map (R·Linked .within) (now (table .exit)) ≡ map (R·Linked .within) (now (table .entry)) ⌝ }
+        ensures rest { λ _. ⌜ map (R·Linked .rest) (now (table .exit)) ≡ map (R·Linked .rest) (now (table .entry)) ⌝ }
         ensures past { λ _. ⌜ (length (now (table .entry)) ≤ p → (now (table .exit) ≡ now (table .entry)) × (now (self .exit) ≡ now (self .entry))) ⌝ }
     {
         if p >= table.len() {

@@ -11,7 +11,7 @@ use Rattle.links.proofs.depth.Needs as need
 pub loop-here-again : need.loop-here-again
 loop-here-again g c =
     let to : c .next-here .result ≡ getD (map (g .R·Linked .after) (c .args .table .now)) (c .in-Some .p) None =
-    link-read (g .R·Linked .after) (c .args .table .now) (c .in-Some .p) (c .index-table-p .result) (c .next-here .result) (c .if-p-table .left) (c .index-table-p .is) (c .next-here .ensures) in (
+    link-read (g .R·Linked .after) (c .args .table .now) (c .in-Some .p) (c .index-table-p .result) None (c .next-here .result) (c .if-p-table .left) (c .index-table-p .is) (c .next-here .ensures) in (
       stepped-more _ (c .loop-here .walked) (c .args .first) (c .loop-here .here) (c .next-here .result) (c .in-Some .p) (c .loop-here .inv .0) (c .in-Some .is) to,
       λ bs ch le. walk-goes _ _ (c .args .at) (c .loop-here .here) (c .next-here .result) (c .loop-here .walked) (c .in-Some .p) _ (c .in-Some .is) to (c .if-p-at .left) (c .loop-here .inv .1 bs ch le),
     )

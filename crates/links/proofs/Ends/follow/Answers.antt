@@ -7,7 +7,8 @@ pub returns-then-q-table : need.returns-then-q-table
 returns-then-q-table g c = record {
   after = link-wrote (g .R·Linked .after) (c .args .table .now) (c .args .at) (c .args .to) (c .in-Some .q) (c .in-Some .is) (c .set-next .last .self) (c .set-next .ensures .after);
   before = map-kept (g .R·Linked .before) (c .args .table .now) (c .in-Some .q) (c .set-next .last .self) _ (c .if-q-table .taken) (c .set-next .ensures .before);
-  bare = map-kept (g .R·Linked .bare) (c .args .table .now) (c .in-Some .q) (c .set-next .last .self) _ (c .if-q-table .taken) (c .set-next .ensures .bare);
+  within = map-kept (g .R·Linked .within) (c .args .table .now) (c .in-Some .q) (c .set-next .last .self) _ (c .if-q-table .taken) (c .set-next .ensures .within);
+  rest = map-kept (g .R·Linked .rest) (c .args .table .now) (c .in-Some .q) (c .set-next .last .self) _ (c .if-q-table .taken) (c .set-next .ensures .rest);
   first = end-stays (c .args .self .now .first) (c .args .at) (c .args .to) (c .in-Some .q) (c .in-Some .is);
   last = refl;
 }
@@ -16,7 +17,8 @@ pub returns-else-q-table : need.returns-else-q-table
 returns-else-q-table g c = record {
   after = link-past (g .R·Linked .after) (c .args .table .now) (c .args .at) (c .args .to) (c .in-Some .q) (c .in-Some .is) (c .if-q-table .left);
   before = refl;
-  bare = refl;
+  within = refl;
+  rest = refl;
   first = end-stays (c .args .self .now .first) (c .args .at) (c .args .to) (c .in-Some .q) (c .in-Some .is);
   last = refl;
 }

@@ -7,7 +7,8 @@ pub returns-then-q-table : need.returns-then-q-table
 returns-then-q-table g c = record {
   before = link-wrote (g .R·Linked .before) (c .args .table .now) (c .args .at) (c .args .to) (c .in-Some .q) (c .in-Some .is) (c .set-prev .last .self) (c .set-prev .ensures .before);
   after = map-kept (g .R·Linked .after) (c .args .table .now) (c .in-Some .q) (c .set-prev .last .self) _ (c .if-q-table .taken) (c .set-prev .ensures .after);
-  bare = map-kept (g .R·Linked .bare) (c .args .table .now) (c .in-Some .q) (c .set-prev .last .self) _ (c .if-q-table .taken) (c .set-prev .ensures .bare);
+  within = map-kept (g .R·Linked .within) (c .args .table .now) (c .in-Some .q) (c .set-prev .last .self) _ (c .if-q-table .taken) (c .set-prev .ensures .within);
+  rest = map-kept (g .R·Linked .rest) (c .args .table .now) (c .in-Some .q) (c .set-prev .last .self) _ (c .if-q-table .taken) (c .set-prev .ensures .rest);
   last = end-stays (c .args .self .now .last) (c .args .at) (c .args .to) (c .in-Some .q) (c .in-Some .is);
   first = refl;
 }
@@ -16,7 +17,8 @@ pub returns-else-q-table : need.returns-else-q-table
 returns-else-q-table g c = record {
   before = link-past (g .R·Linked .before) (c .args .table .now) (c .args .at) (c .args .to) (c .in-Some .q) (c .in-Some .is) (c .if-q-table .left);
   after = refl;
-  bare = refl;
+  within = refl;
+  rest = refl;
   last = end-stays (c .args .self .now .last) (c .args .at) (c .args .to) (c .in-Some .q) (c .in-Some .is);
   first = refl;
 }

@@ -16,6 +16,7 @@ returns g c =
           (c .args .self .now .first) (c .args .self .now .last) (c .precede .last .self .last)
           len (c .set-prev .ensures .after ∙ c .set-next .ensures .after) (c .set-prev .ensures .before)
           (c .precede .ensures .after) (c .precede .ensures .before) (c .precede .ensures .last);
-      bare = c .precede .ensures .bare ∙ map-kept (g .R·Linked .bare) (c .args .table .now) (c .args .p) (c .set-prev .last .self) _ (c .if-p-table .left) (c .set-prev .ensures .bare ∙ c .set-next .ensures .bare);
+      within = c .precede .ensures .within ∙ map-kept (g .R·Linked .within) (c .args .table .now) (c .args .p) (c .set-prev .last .self) _ (c .if-p-table .left) (c .set-prev .ensures .within ∙ c .set-next .ensures .within);
+      rest = c .precede .ensures .rest ∙ map-kept (g .R·Linked .rest) (c .args .table .now) (c .args .p) (c .set-prev .last .self) _ (c .if-p-table .left) (c .set-prev .ensures .rest ∙ c .set-next .ensures .rest);
       past = λ h. absurd (omega arith);
     }

@@ -8,7 +8,8 @@ use Rattle.links.proofs.Ends.unlink.Needs as need
 pub returns-then-p-table : need.returns-then-p-table
 returns-then-p-table g c = record {
   list = λ xs ys h. removes-none _ _ _ _ _ (c .args .p) (c .if-p-table .taken) xs ys h;
-  bare = refl;
+  within = refl;
+  rest = refl;
   past = λ h. (refl, refl);
 }
 
@@ -22,6 +23,7 @@ returns g c =
           len (c .prev-before .ensures) (c .next-after .ensures)
           (c .follow .ensures .after) (c .follow .ensures .before) (c .follow .ensures .first) (c .follow .ensures .last)
           (c .precede .ensures .after) (c .precede .ensures .before) (c .precede .ensures .first) (c .precede .ensures .last);
-      bare = c .precede .ensures .bare ∙ c .follow .ensures .bare;
+      within = c .precede .ensures .within ∙ c .follow .ensures .within;
+      rest = c .precede .ensures .rest ∙ c .follow .ensures .rest;
       past = λ h. absurd (omega arith);
     }
