@@ -16,8 +16,8 @@ use Rattle.lists.specs.Weights.{total}
 use Rattle.lists.proofs.Weights.{eqb-cases, ltb-cases}
 use Rattle.model.specs.Windows.{isOpen}
 use Rattle.model.specs.Rows.{wrapped}
-use Rattle.order.specs.declared.page.PageRecord.{PageRecord}
-use Rattle.order.specs.Views.{marks, blank}
+use Rattle.census.specs.declared.page.PageRecord.{PageRecord}
+use Rattle.census.specs.Views.{marks, blank}
 use Rattle.census.specs.SameBut.{SameBut}
 
 -- Differing in marks alone goes on from table to table.

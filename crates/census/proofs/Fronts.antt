@@ -6,7 +6,7 @@ use native.Mathlib.Omega.{arith}
 use lib.ListN.{length, take, drop, replicate}
 use Rattle.std.proofs.shelf.Lists.{take-at, drop-at, length-take-le}
 use Rattle.model.specs.Ledger.{Ledger}
-use Rattle.order.specs.declared.page.PageRecord.{PageRecord}
+use Rattle.census.specs.declared.page.PageRecord.{PageRecord}
 use Rattle.census.specs.declared.state.Census.{Census}
 use Rattle.census.specs.Refusals.{needed}
 use Rattle.census.specs.Means.{Means, Keeps}

@@ -13,11 +13,12 @@ use Rattle.lists.specs.Places.{place}
 use Rattle.model.specs.Order.{fresh}
 use Rattle.model.specs.Ledger.{unseen}
 use Rattle.model.specs.Windows.{raised}
-use Rattle.order.specs.declared.page.PageRecord.{PageRecord}
-use Rattle.order.specs.declared.page.Part.the-variants.{Unused}
-use Rattle.order.specs.Views.{blank, parts, marks}
+use Rattle.census.specs.declared.page.PageRecord.{PageRecord}
+use Rattle.links.specs.declared.Part.the-variants.{Unused}
+use Rattle.order.specs.Views.{Views}
 use Rattle.order.specs.Stands.{AllUnused, Stands}
 use Rattle.census.specs.declared.state.Census.{Census}
+use Rattle.census.specs.Views.{blank, marks, orderly}
 use Rattle.census.specs.Refusals.{needed, mayOpen, mayKeep, mayShow, mayAsk}
 use Rattle.census.specs.Columns.{Column}
 use Rattle.census.specs.Means.{Means}
@@ -50,11 +51,11 @@ pub ask-room : (n records places l : ℕ) → mayAsk n records places l ≡ Ok t
 ask-room n records places l e = (grind (arith, tells), grind (arith, tells))
 
 pub opened-means : {X : Type 0} (told : X → ℕ) (c : Census X) (rule : X) (t : List PageRecord) (counts : List ℕ) → t ≡ replicate (c .pages) blank → counts ≡ replicate (needed (c .pages)) 0 →
-    c .«new_reads» ≡ 0 → c .«new_writes» ≡ 0 → c .settled ≡ 0 → c .calls ≡ 0 → ((u : List PageRecord) → AllUnused u → Stands told (c .parts) u (fresh (told rule))) → Means told c t counts (unseen (told rule))
+    c .«new_reads» ≡ 0 → c .«new_writes» ≡ 0 → c .settled ≡ 0 → c .calls ≡ 0 → ((v : Views) → AllUnused v → Stands told (c .parts) v (fresh (told rule))) → Means told c t counts (unseen (told rule))
 opened-means told c rule t counts e f nr nw se ca stands = record {
   long = rw e (length-replicate (c .pages) blank);
   wide = rw f (length-replicate (needed (c .pages)) 0);
-  stands = rw e (stands (replicate (c .pages) blank) (λ q h. same-all (λ (r : PageRecord). r .part) blank (c .pages) q));
+  stands = rw e (stands (orderly (replicate (c .pages) blank)) (λ q h. same-all (λ (r : PageRecord). r .part) blank (c .pages) q));
   marks-are = λ q h. rw e (sym (ap (λ x. raised x 0) (same-all (λ (r : PageRecord). r .mark) blank (c .pages) q)));
   marks-low = λ q h. tt;
   reads-are = rw f (empty-column (c .pages) (needed (c .pages)) 0);

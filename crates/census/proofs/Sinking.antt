@@ -20,8 +20,8 @@ use Rattle.lists.proofs.Places.{beyond}
 use Rattle.links.specs.Chain.{Chain}
 use Rattle.model.specs.Windows.{raised, over, shallow}
 use Rattle.model.specs.Rows.{wrapped}
-use Rattle.order.specs.declared.page.PageRecord.{PageRecord}
-use Rattle.order.specs.Views.{marks, blank}
+use Rattle.census.specs.declared.page.PageRecord.{PageRecord}
+use Rattle.census.specs.Views.{marks, blank}
 use Rattle.census.specs.Sinking.{shallowAt, Sinking}
 
 pub marked-more : (t : List PageRecord) (l i marked here : ℕ) → i < length t → marked ≡ wrapped (total i (λ q. over l (getD (marks t) q None))) → here ≡ over l (getD t i blank .mark) →

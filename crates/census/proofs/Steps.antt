@@ -22,8 +22,8 @@ use Rattle.model.specs.Ledger.{Ledger, shownRead, shownWrite, shownSettle}
 use Rattle.model.specs.Rows.{wrapped}
 use Rattle.model.proofs.Uses.{used-out}
 use Rattle.model.proofs.Marks.{raised-twice, place-grows}
-use Rattle.order.specs.declared.page.PageRecord.{PageRecord}
-use Rattle.order.specs.Views.{marks}
+use Rattle.census.specs.declared.page.PageRecord.{PageRecord}
+use Rattle.census.specs.Views.{marks, orderly}
 use Rattle.order.specs.Stands.{Stands}
 use Rattle.census.specs.declared.state.Census.{Census}
 use Rattle.census.specs.Refusals.{needed}
@@ -51,7 +51,7 @@ module _ {X : Type 0} (told : X → ℕ) (c : Census X) (t : List PageRecord) (c
   other-mark : (t′ : List PageRecord) (v : Option ℕ) (q : ℕ) → q < c .pages → q ≢ p → marks t′ ≡ set (marks t) p v → raised (b .marks q) (place q (after .bottom)) ≡ raised (getD (marks t′) q None) (place q (after .bottom))
   other-mark t′ v q h ne e =
       ap (λ x. raised x (place q (after .bottom))) (m .marks-are q h)
-      ∙ (raised-twice (getD (marks t) q None) (place q (b .order .bottom)) (place q (after .bottom)) (place-grows (length t) (c .parts .slots) p q r (b .order) (m .stands .sound) slots (λ z. ne (sym z)))
+      ∙ (raised-twice (getD (marks t) q None) (place q (b .order .bottom)) (place q (after .bottom)) (place-grows (length t) (c .parts .slots) p q r (b .order) (m .stands .arranged .sound) slots (λ z. ne (sym z)))
       ∙ ap (λ x. raised x (place q (after .bottom))) (sym (stored-other t′ v q ne e)))
 
   low-p : p < c .pages
@@ -73,9 +73,9 @@ module _ {X : Type 0} (told : X → ℕ) (c : Census X) (t : List PageRecord) (c
     | inr n ↦ rw (n .1) (other-mark t′ (Some 0) q h (n .0) e)
   ] where
     at-top : Some 0 ≡ raised (getD (marks t′) p None) (place p (after .bottom))
-    at-top = sym (ap (λ x. raised x (place p (after .bottom))) (stored-same t′ (Some 0) e) ∙ ap (raised (Some 0)) (place-none 0 p (after .bottom) (used-out (length t) (c .parts .slots) p (b .order) r (m .stands .sound) low slots)))
+    at-top = sym (ap (λ x. raised x (place p (after .bottom))) (stored-same t′ (Some 0) e) ∙ ap (raised (Some 0)) (place-none 0 p (after .bottom) (used-out (length t) (c .parts .slots) p (b .order) r (m .stands .arranged .sound) low slots)))
 
-  module _ (c′ : Census X) (t′ : List PageRecord) (counts′ : List ℕ) (pages-is : c′ .pages ≡ c .pages) (long : length t′ ≡ length t) (stands : Stands told (c′ .parts) t′ after)
+  module _ (c′ : Census X) (t′ : List PageRecord) (counts′ : List ℕ) (pages-is : c′ .pages ≡ c .pages) (long : length t′ ≡ length t) (stands : Stands told (c′ .parts) (orderly t′) after)
       (settled-is : c′ .settled ≡ c .settled) (calls-is : c′ .calls ≡ (c .calls + 1) % 4294967296) where
     depth-fits : Low (c .pages) (depthOf p (b .order))
     depth-fits = rw (← (m .long)) (depth-low told (c .parts) t (b .order) (m .stands) p)

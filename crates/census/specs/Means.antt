@@ -8,8 +8,8 @@ use Rattle.lists.specs.Places.{place}
 use Rattle.model.specs.Windows.{raised}
 use Rattle.model.specs.Ledger.{Ledger}
 use Rattle.model.specs.Rows.{wrapped}
-use Rattle.order.specs.declared.page.PageRecord.{PageRecord}
-use Rattle.order.specs.Views.{marks}
+use Rattle.census.specs.declared.page.PageRecord.{PageRecord}
+use Rattle.census.specs.Views.{marks, orderly}
 use Rattle.order.specs.Stands.{Stands}
 use Rattle.census.specs.declared.state.Census.{Census}
 use Rattle.census.specs.Refusals.{needed}
@@ -26,7 +26,7 @@ Low n (Some m) = m ≤ n
 pub record Means {X : Type 0} (told : X → ℕ) (c : Census X) (t : List PageRecord) (counts : List ℕ) (b : Ledger) : Type 0 where
   pub long : length t ≡ c .pages
   pub wide : length counts ≡ needed (c .pages)
-  pub stands : Stands told (c .parts) t (b .order)
+  pub stands : Stands told (c .parts) (orderly t) (b .order)
   pub marks-are : (q : ℕ) → q < c .pages → b .marks q ≡ raised (getD (marks t) q None) (place q (b .order .bottom))
   pub marks-low : (q : ℕ) → q < c .pages → Low (c .pages) (b .marks q)
   pub reads-are : Column (c .pages) counts (readsFrom (c .pages)) (b .reads)

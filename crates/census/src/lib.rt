@@ -6,11 +6,14 @@
 mod checks;
 mod counts;
 mod opening;
+mod page;
 mod refusal;
 mod rows;
 mod shows;
 mod state;
 mod windows;
 
+pub use page::PageLinked;
+pub use page::PageRecord;
 pub use refusal::CensusRefusal;
 pub use state::Census;

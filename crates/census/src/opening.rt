@@ -11,9 +11,9 @@ ghost use Rattle.model.specs.Ledger.{unseen};
 ghost use Rattle.census.specs.Refusals.{mayOpen, needed};
 ghost use Rattle.census.specs.Means.{Keeps};
 use super::checks::may_open;
+use super::page::PageRecord;
 use super::refusal::CensusRefusal;
 use super::state::Census;
-use order::PageRecord;
 use order::TwoParts;
 use rules::TopRule;
 

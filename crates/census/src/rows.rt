@@ -14,17 +14,17 @@ ghost use Rattle.links.specs.Chain.{Chain};
 ghost use Rattle.model.specs.Windows.{over, shallow};
 ghost use Rattle.model.specs.Ledger.{Ledger};
 ghost use Rattle.model.specs.Rows.{wrapped, above, rateOf, rowFetches, rowReclaims, rowSaves, rowOf};
-ghost use Rattle.order.specs.Views.{nexts, marks};
+ghost use Rattle.census.specs.Views.{nexts, marks};
 ghost use Rattle.census.specs.Refusals.{mayAsk, needed};
 ghost use Rattle.census.specs.Means.{Means, Keeps};
 use super::checks::may_ask;
 use super::counts::tally;
+use super::page::PageLinked;
+use super::page::PageRecord;
 use super::refusal::CensusRefusal;
 use super::state::Census;
 use links::Linked;
 use model::Row;
-use order::PageLinked;
-use order::PageRecord;
 use rules::TopRule;
 
 // Faults for each thousand calls.

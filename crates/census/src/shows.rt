@@ -12,6 +12,8 @@ ghost use Rattle.census.specs.Means.{Means, Keeps};
 use super::checks::may_keep;
 use super::checks::may_show;
 use super::counts::note_found;
+use super::page::PageLinked;
+use super::page::PageRecord;
 use super::refusal::CensusRefusal;
 use super::state::Census;
 use super::windows::end_windows;
@@ -19,7 +21,6 @@ use super::windows::raise;
 use super::windows::set_mark;
 use model::Call;
 use model::UseKind;
-use order::PageRecord;
 use rules::TopRule;
 
 impl<R: TopRule> Census<R> {

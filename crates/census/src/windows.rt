@@ -6,9 +6,9 @@ ghost use Rattle.std.specs.declared.option.Option.the-variants.{None};
 ghost use Rattle.lists.specs.Weights.{total};
 ghost use Rattle.model.specs.Windows.{raised, isOpen};
 ghost use Rattle.model.specs.Rows.{wrapped};
-ghost use Rattle.order.specs.Views.{nexts, prevs, parts, marks};
+ghost use Rattle.census.specs.Views.{nexts, prevs, parts, marks};
 ghost use Rattle.census.specs.SameBut.{SameBut};
-use order::PageRecord;
+use super::page::PageRecord;
 
 // The mark of a window whose page is seen at a depth.
 pub(crate) fn raise(mark: Option<usize>, depth: usize) -> Option<usize>

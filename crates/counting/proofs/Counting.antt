@@ -9,7 +9,7 @@ use lib.ListN.{length}
 use Rattle.std.specs.declared.result.Result.{Result}
 use Rattle.std.specs.declared.result.Result.the-variants.{Ok, Err}
 use Rattle.model.specs.Ledger.{unseen, shownAll}
-use Rattle.order.specs.declared.page.PageRecord.{PageRecord}
+use Rattle.census.specs.declared.page.PageRecord.{PageRecord}
 use Rattle.census.specs.declared.refusal.CensusRefusal.{CensusRefusal}
 use Rattle.census.specs.declared.refusal.CensusRefusal.the-variants.{ShortTable}
 use Rattle.census.specs.Refusals.{needed, mayKeep}

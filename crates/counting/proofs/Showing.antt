@@ -14,7 +14,7 @@ use Rattle.std.proofs.shelf.Sums.{folded-push}
 use Rattle.model.specs.Order.{Rule}
 use Rattle.model.specs.declared.Call.{Call}
 use Rattle.model.specs.Ledger.{Ledger, shown, shownAll}
-use Rattle.order.specs.declared.page.PageRecord.{PageRecord}
+use Rattle.census.specs.declared.page.PageRecord.{PageRecord}
 use Rattle.census.specs.declared.state.Census.{Census}
 use Rattle.census.specs.declared.refusal.CensusRefusal.{CensusRefusal}
 use Rattle.census.specs.Refusals.{mayKeep, mayTake, needed}

@@ -3,7 +3,7 @@ use Prim.Native.Nat.{ℕ}
 use Rattle.rules.specs.declared.Oldest.{Oldest}
 use Rattle.rules.specs.declared.Lottery.{Lottery}
 use Rattle.model.specs.Ledger.{Ledger}
-use Rattle.order.specs.declared.page.PageRecord.{PageRecord}
+use Rattle.census.specs.declared.page.PageRecord.{PageRecord}
 use Rattle.census.specs.Means.{Keeps}
 use Rattle.counting.specs.declared.counted.Counted.{Counted}
 use Rattle.counting.specs.declared.counted.Counted.the-variants as case

@@ -5,7 +5,7 @@ use lib.ListN.{length, drop}
 use Rattle.std.specs.declared.result.Result.the-variants.{Ok}
 use Rattle.model.specs.Order.{ruleOf}
 use Rattle.model.specs.Ledger.{unseen, shownAll}
-use Rattle.order.specs.declared.page.PageRecord.{PageRecord}
+use Rattle.census.specs.declared.page.PageRecord.{PageRecord}
 use Rattle.census.specs.declared.state.Census.{Census}
 use Rattle.census.specs.Refusals.{mayKeep, needed}
 use Rattle.census.specs.Means.{Keeps}

@@ -10,7 +10,7 @@ use Rattle.rules.specs.Oldest.{oldestSlot, oldestNext}
 use Rattle.rules.specs.Lottery.{lotterySlot, lotteryNext}
 use Rattle.model.specs.Order.{Rule, ruleOf}
 use Rattle.model.specs.Ledger.{Ledger, unseen, shownAll}
-use Rattle.order.specs.declared.page.PageRecord.{PageRecord}
+use Rattle.census.specs.declared.page.PageRecord.{PageRecord}
 use Rattle.census.specs.Refusals.{mayKeep, needed}
 use Rattle.lines.specs.declared.Header.{Header}
 use Rattle.recordings.specs.declared.RunFault.{RunFault}

@@ -11,7 +11,7 @@ ghost use Rattle.counting.specs.Counted.{pagesIn, slotsIn, KeepsIn};
 use census::Census;
 use census::CensusRefusal;
 use model::Row;
-use order::PageRecord;
+use census::PageRecord;
 use rules::Lottery;
 use rules::LotteryRule;
 use rules::Oldest;

@@ -14,7 +14,7 @@ use census::Census;
 use lines::CallRecord;
 use model::Call;
 use model::UseKind;
-use order::PageRecord;
+use census::PageRecord;
 use rules::TopRule;
 
 // The call that a call record stands for.

@@ -18,7 +18,7 @@ use super::counted::Counted;
 use super::passes::show_lines;
 use census::Census;
 use lines::Header;
-use order::PageRecord;
+use census::PageRecord;
 use recordings::RunFault;
 use rules::Lottery;
 use rules::LotteryRule;

@@ -11,7 +11,7 @@ use Rattle.std.specs.declared.result.Result.the-variants.{Ok, Err}
 use Rattle.std.specs.Results.{mapped}
 use Rattle.std.proofs.shelf.Tests.{le-ltb}
 use Rattle.model.specs.Ledger.{Ledger}
-use Rattle.order.specs.declared.page.PageRecord.{PageRecord}
+use Rattle.census.specs.declared.page.PageRecord.{PageRecord}
 use Rattle.census.specs.Refusals.{needed}
 use Rattle.lines.specs.Fit.{HeaderFit}
 use Rattle.recordings.specs.declared.RunFault.{RunFault}

@@ -15,7 +15,7 @@ ghost use Rattle.counting.specs.Counted.{pagesIn, slotsIn, KeepsIn};
 ghost use Rattle.listings.specs.Text.{row-line, fault-line, rows-text, listing-text};
 use counting::Counted;
 use model::Row;
-use order::PageRecord;
+use census::PageRecord;
 use recordings::Told;
 use std::alloc::AllocError;
 use std::alloc::Global;

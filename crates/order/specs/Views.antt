@@ -1,34 +1,23 @@
 use mathlib.Core.List.{List, map}
 use Prim.Native.Nat.{ℕ}
+use lib.ListN.{length}
 use Rattle.std.specs.declared.option.Option.{Option}
-use Rattle.std.specs.declared.option.Option.the-variants.{None}
 use Rattle.links.specs.declared.Ends.{Ends}
-use Rattle.links.specs.HeldIn.{HeldIn}
-use Rattle.order.specs.declared.page.PageRecord.{PageRecord}
-use Rattle.order.specs.declared.page.Part.{Part}
-use Rattle.order.specs.declared.page.Part.the-variants.{Unused}
+use Rattle.links.specs.declared.Part.{Part}
+use Rattle.links.specs.Holds.{Holds}
 
--- The columns of a page table.
-abbrev pub nexts : List PageRecord → List (Option ℕ)
-nexts t = map (λ (r : PageRecord). r .next) t
+-- What the order reads of a table: how long it is, the links of its records and their parts.
+pub record Views : Type 0 where
+  pub size : ℕ
+  pub nexts : List (Option ℕ)
+  pub prevs : List (Option ℕ)
+  pub parts : List Part
 
-abbrev pub prevs : List PageRecord → List (Option ℕ)
-prevs t = map (λ (r : PageRecord). r .prev) t
+-- The views of a table whose records' links and parts are read by three functions.
+abbrev pub viewsOf : {T : Type 0} → (T → Option ℕ) → (T → Option ℕ) → (T → Part) → List T → Views
+viewsOf after before within t =
+    record { size = length t; nexts = map after t; prevs = map before t; parts = map within t }
 
-abbrev pub parts : List PageRecord → List Part
-parts t = map (λ (r : PageRecord). r .part) t
-
-abbrev pub marks : List PageRecord → List (Option ℕ)
-marks t = map (λ (r : PageRecord). r .mark) t
-
--- A record without its links.
-abbrev pub bare : PageRecord → PageRecord
-bare r = record { next = None; prev = None; part = r .part; mark = r .mark }
-
--- The record of a page that was never used.
-abbrev pub blank : PageRecord
-blank = record { next = None; prev = None; part = Unused; mark = None }
-
--- The links of the table hold the list bs between its ends, both ways.
-abbrev pub Linked-as : List PageRecord → Ends → List ℕ → Type 0
-Linked-as t ends bs = HeldIn (λ (r : PageRecord). r .next) (λ (r : PageRecord). r .prev) t ends bs
+-- The links hold the list bs between its ends, both ways.
+abbrev pub Linked-as : Views → Ends → List ℕ → Type 0
+Linked-as v ends bs = Holds (v .nexts) (v .prevs) (v .size) (ends .first) (ends .last) bs

@@ -1,9 +1,5 @@
-// The order of the pages of a pager whose bottom is without limit, kept in a lent page table.
+// The order of what is in a top of slots and a linked bottom, kept in a lent table of records of any type that has links and a part.
 mod moves;
-pub mod page;
 pub mod parts;
 
-pub use page::PageLinked;
-pub use page::PageRecord;
-pub use page::Part;
 pub use parts::TwoParts;

@@ -5,7 +5,7 @@ use Rattle.std.specs.declared.option.Option.the-variants.{None}
 use Rattle.lists.specs.Weights.{total}
 use Rattle.model.specs.Windows.{over}
 use Rattle.model.specs.Rows.{wrapped}
-use Rattle.order.specs.Views.{marks}
+use Rattle.census.specs.Views.{marks}
 use Rattle.census.proofs.Sinking.{marked-more}
 use Rattle.census.proofs.rows.marked_above.Needs as need
 

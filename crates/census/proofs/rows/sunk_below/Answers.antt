@@ -8,8 +8,8 @@ use Rattle.std.specs.declared.option.Option.the-variants.{None}
 use Rattle.std.proofs.shelf.Lists.{getD-map}
 use Rattle.lists.specs.Weights.{one}
 use Rattle.model.specs.Windows.{shallow}
-use Rattle.order.specs.declared.page.PageRecord.{PageRecord}
-use Rattle.order.specs.Views.{blank}
+use Rattle.census.specs.declared.page.PageRecord.{PageRecord}
+use Rattle.census.specs.Views.{blank}
 use Rattle.census.proofs.Sinking.{sink-starts, sink-ends, sink-inside, sink-goes}
 use Rattle.census.proofs.rows.sunk_below.Needs as need
 

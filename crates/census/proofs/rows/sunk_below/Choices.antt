@@ -3,7 +3,7 @@ use Prim.Native.Nat.{ℕ, _-_, _<_, _≤_}
 use lib.ListN.{length, drop}
 use Rattle.lists.specs.Weights.{weigh}
 use Rattle.links.specs.Chain.{Chain}
-use Rattle.order.specs.Views.{nexts, marks}
+use Rattle.census.specs.Views.{nexts, marks}
 use Rattle.census.specs.Sinking.{shallowAt, Sinking}
 use Rattle.census.proofs.rows.sunk_below.Given as given
 

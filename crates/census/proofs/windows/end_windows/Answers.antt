@@ -5,7 +5,7 @@ use Rattle.std.specs.declared.option.Option.the-variants.{None}
 use Rattle.lists.specs.Weights.{total}
 use Rattle.model.specs.Windows.{isOpen}
 use Rattle.model.specs.Rows.{wrapped}
-use Rattle.order.specs.Views.{marks}
+use Rattle.census.specs.Views.{marks}
 use Rattle.census.proofs.Closing.{same-more, closed-more, ended-more, closed-all}
 use Rattle.census.proofs.windows.end_windows.Needs as need
 

@@ -7,7 +7,7 @@ use Rattle.std.specs.declared.option.Option.the-variants.{None}
 use Rattle.lists.specs.Weights.{total}
 use Rattle.model.specs.Windows.{isOpen}
 use Rattle.model.specs.Rows.{wrapped}
-use Rattle.order.specs.Views.{marks}
+use Rattle.census.specs.Views.{marks}
 use Rattle.census.specs.SameBut.{SameBut}
 use Rattle.census.proofs.windows.end_windows.Given as given
 

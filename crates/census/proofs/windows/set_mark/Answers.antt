@@ -1,8 +1,8 @@
 use mathlib.Core.Path.{refl}
 use Rattle.std.proofs.shelf.Lists.{length-set}
 use Rattle.links.proofs.Kept.{map-kept, map-wrote, map-past}
-use Rattle.order.specs.declared.page.PageRecord.{PageRecord}
-use Rattle.order.specs.Views.{blank}
+use Rattle.census.specs.declared.page.PageRecord.{PageRecord}
+use Rattle.census.specs.Views.{blank}
 use Rattle.census.proofs.windows.set_mark.Needs as need
 
 pub returns-then-page-table : need.returns-then-page-table

@@ -1,21 +1,19 @@
 use mathlib.Core.Path.{refl}
 use Rattle.links.proofs.Kept.{map-kept, map-wrote, map-past}
-use Rattle.order.specs.declared.page.PageRecord.{PageRecord}
-use Rattle.order.specs.Views.{blank}
 use Rattle.order.proofs.moves.note_part.Needs as need
 
 pub returns-then-page-table : need.returns-then-page-table
-returns-then-page-table c = record {
-  next = map-kept (λ (r : PageRecord). r .next) (c .args .table .now) (c .args .page) _ blank (c .if-page-table .taken) refl;
-  prev = map-kept (λ (r : PageRecord). r .prev) (c .args .table .now) (c .args .page) _ blank (c .if-page-table .taken) refl;
-  part = map-wrote (λ (r : PageRecord). r .part) (c .args .table .now) (c .args .page) _ (c .args .part) refl;
-  mark = map-kept (λ (r : PageRecord). r .mark) (c .args .table .now) (c .args .page) _ blank (c .if-page-table .taken) refl;
+returns-then-page-table g c = record {
+  next = map-kept (g .T·Linked .after) (c .args .table .now) (c .args .page) (c .set-part .last .self) _ (c .if-page-table .taken) (c .set-part .ensures .after);
+  prev = map-kept (g .T·Linked .before) (c .args .table .now) (c .args .page) (c .set-part .last .self) _ (c .if-page-table .taken) (c .set-part .ensures .before);
+  part = map-wrote (g .T·Linked .within) (c .args .table .now) (c .args .page) (c .set-part .last .self) (c .args .part) (c .set-part .ensures .within);
+  rest = map-kept (g .T·Linked .rest) (c .args .table .now) (c .args .page) (c .set-part .last .self) _ (c .if-page-table .taken) (c .set-part .ensures .rest);
 }
 
 pub returns-else-page-table : need.returns-else-page-table
-returns-else-page-table c = record {
+returns-else-page-table g c = record {
   next = refl;
   prev = refl;
-  part = map-past (λ (r : PageRecord). r .part) (c .args .table .now) (c .args .page) (c .args .part) (c .if-page-table .left);
-  mark = refl;
+  part = map-past (g .T·Linked .within) (c .args .table .now) (c .args .page) (c .args .part) (c .if-page-table .left);
+  rest = refl;
 }

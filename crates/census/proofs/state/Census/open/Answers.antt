@@ -4,7 +4,7 @@ use lib.ListN.{length, take, replicate}
 use native.Mathlib.Omega.{arith}
 use Rattle.std.proofs.shelf.Tests.{true≢false}
 use Rattle.std.proofs.shelf.Lists.{length-replicate}
-use Rattle.order.specs.Views.{blank}
+use Rattle.census.specs.Views.{blank}
 use Rattle.census.proofs.Opened.{opened-means, open-room}
 use Rattle.census.proofs.Fronts.{front-filled, back-kept, from-front}
 use Rattle.census.proofs.state.Census.open.Needs as need

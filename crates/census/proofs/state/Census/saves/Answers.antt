@@ -10,5 +10,5 @@ pub returns : need.returns
 returns g c = λ b m.
     let n = c .args .self .now .pages in
     let ended = c .tally-ended .ensures ∙ tally-above n (c .args .l) (2 * (n + 1)) (c .args .counts .now) (b .ended) (m .ended-are) (c .pre .low) in
-    let sunk = c .sunk-below-sunk .ensures (b .order .bottom) (rw (c .newest .ensures) (holds-chain _ _ _ _ _ (b .order .bottom) (m .stands .bottom-is))) (holds-fits _ _ _ _ _ (b .order .bottom) (m .stands .bottom-is)) in
+    let sunk = c .sunk-below-sunk .ensures (b .order .bottom) (rw (c .newest .ensures) (holds-chain _ _ _ _ _ (b .order .bottom) (m .stands .arranged .bottom-is))) (holds-fits _ _ _ _ _ (b .order .bottom) (m .stands .arranged .bottom-is)) in
     omega (arith, m .settled-are, ended, c .marked-above-marked .ensures, sunk, windows-above (g .R·TopRule .told) (c .args .self .now) (c .args .table .now) (c .args .counts .now) b (c .args .l) m)

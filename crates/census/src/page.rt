@@ -2,18 +2,9 @@
 ghost use mathlib.Core.Path.{_≡_};
 ghost use Rattle.std.specs.declared.option.Option.{Option};
 ghost use Rattle.std.specs.declared.option.Option.the-variants.{None};
+ghost use Rattle.links.specs.declared.Part.the-variants.{Unused};
 use links::Linked;
-
-// Where a page is.
-#[derive(Clone, Copy)]
-pub enum Part {
-    // it was never used
-    Unused,
-    // in a slot of the top
-    Top,
-    // in the bottom, after it left the top
-    Bottom,
-}
+use links::Part;
 
 // What is known of one page.
 #[derive(Clone, Copy)]
@@ -22,6 +13,7 @@ pub struct PageRecord {
     pub(crate) next: Option<usize>,
     // the next newer page of the bottom
     pub(crate) prev: Option<usize>,
+    // where the page is; a page that was never used is in no part
     pub(crate) part: Part,
     // the mark of the page's open window, as of the page's last use; none where no window is open
     pub mark: Option<usize>,
@@ -30,7 +22,7 @@ pub struct PageRecord {
 impl PageRecord {
     // The record of a page that was never used.
     pub fn unused() -> PageRecord
-        ensures { λ r. ⌜ r ≡ record { next = None; prev = None; part = Part.Unused; mark = None } ⌝ }
+        ensures { λ r. ⌜ r ≡ record { next = None; prev = None; part = Unused; mark = None } ⌝ }
     {
         PageRecord {
             next: None,
@@ -46,7 +38,9 @@ pub impl Linked for PageRecord as PageLinked {
 
     ghost before = { λ r. r .prev };
 
-    ghost bare = { λ r. record { next = None; prev = None; part = r .part; mark = r .mark } };
+    ghost within = { λ r. r .part };
+
+    ghost rest = { λ r. record { next = None; prev = None; part = Unused; mark = r .mark } };
 
     fn next(&self) -> Option<usize> {
         self.next
@@ -62,5 +56,13 @@ pub impl Linked for PageRecord as PageLinked {
 
     fn set_prev(&mut self, to: Option<usize>) {
         self.prev = to;
+    }
+
+    fn part(&self) -> Part {
+        self.part
+    }
+
+    fn set_part(&mut self, part: Part) {
+        self.part = part;
     }
 }
