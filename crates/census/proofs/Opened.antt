@@ -13,10 +13,10 @@ use Rattle.lists.specs.Places.{place}
 use Rattle.model.specs.Order.{fresh}
 use Rattle.model.specs.Ledger.{unseen}
 use Rattle.model.specs.Windows.{raised}
-use Rattle.census.specs.declared.page.PageRecord.{PageRecord}
 use Rattle.links.specs.declared.Part.the-variants.{Unused}
 use Rattle.order.specs.Views.{Views}
 use Rattle.order.specs.Stands.{AllUnused, Stands}
+use Rattle.census.specs.declared.page.PageRecord.{PageRecord}
 use Rattle.census.specs.declared.state.Census.{Census}
 use Rattle.census.specs.Views.{blank, marks, orderly}
 use Rattle.census.specs.Refusals.{needed, mayOpen, mayKeep, mayShow, mayAsk}

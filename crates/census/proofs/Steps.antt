@@ -22,9 +22,9 @@ use Rattle.model.specs.Ledger.{Ledger, shownRead, shownWrite, shownSettle}
 use Rattle.model.specs.Rows.{wrapped}
 use Rattle.model.proofs.Uses.{used-out}
 use Rattle.model.proofs.Marks.{raised-twice, place-grows}
+use Rattle.order.specs.Stands.{Stands}
 use Rattle.census.specs.declared.page.PageRecord.{PageRecord}
 use Rattle.census.specs.Views.{marks, orderly}
-use Rattle.order.specs.Stands.{Stands}
 use Rattle.census.specs.declared.state.Census.{Census}
 use Rattle.census.specs.Refusals.{needed}
 use Rattle.census.specs.Columns.{notedIn, Column, readsFrom, writesFrom, endedFrom}

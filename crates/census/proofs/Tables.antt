@@ -16,10 +16,10 @@ use Rattle.lists.proofs.Places.{place-le}
 use Rattle.links.proofs.Holding.{holds-fits}
 use Rattle.model.specs.Order.{Order, depthOf}
 use Rattle.model.specs.Windows.{raised}
-use Rattle.census.specs.declared.page.PageRecord.{PageRecord}
 use Rattle.order.specs.declared.parts.TwoParts.{TwoParts}
 use Rattle.order.specs.Stands.{Stands}
 use Rattle.order.proofs.Standing.{relinked}
+use Rattle.census.specs.declared.page.PageRecord.{PageRecord}
 use Rattle.census.specs.Views.{marks, orderly, rested}
 use Rattle.census.specs.SameBut.{SameBut}
 use Rattle.census.specs.Means.{Low}

@@ -8,9 +8,9 @@ use Rattle.lists.specs.Places.{place}
 use Rattle.model.specs.Windows.{raised}
 use Rattle.model.specs.Ledger.{Ledger}
 use Rattle.model.specs.Rows.{wrapped}
+use Rattle.order.specs.Stands.{Stands}
 use Rattle.census.specs.declared.page.PageRecord.{PageRecord}
 use Rattle.census.specs.Views.{marks, orderly}
-use Rattle.order.specs.Stands.{Stands}
 use Rattle.census.specs.declared.state.Census.{Census}
 use Rattle.census.specs.Refusals.{needed}
 use Rattle.census.specs.Columns.{Column, readsFrom, writesFrom, endedFrom}

@@ -11,10 +11,10 @@ ghost use Rattle.lines.specs.Calls.{call-of};
 ghost use Rattle.recordings.specs.Passes.{calls-in, Sound};
 ghost use Rattle.counting.specs.Calls.{callIn, callsFound};
 use census::Census;
+use census::PageRecord;
 use lines::CallRecord;
 use model::Call;
 use model::UseKind;
-use census::PageRecord;
 use rules::TopRule;
 
 // The call that a call record stands for.
