@@ -28,7 +28,7 @@ use Rattle.model.specs.Rows.{above, rowFetches, rowFaults, rowReclaims, rowSave
 use Rattle.model.specs.Pager.{cut, evicted, fault, Pager, pagerFresh, pagerRead, pagerWrite, pagerSettle, pagerRun}
 use Rattle.model.proofs.Uses.{sound-fresh, once-bottom, sound-used, used-out}
 use Rattle.model.proofs.Marks.{raised-none}
-use Rattle.agreement.proofs.Moves.{take-nil, cut-fresh, sound-cut, cut-used, grown, moved}
+use Rattle.model.proofs.Moves.{take-nil, cut-fresh, sound-cut, cut-used, grown, moved}
 use Rattle.agreement.proofs.Marks.{Covers, covers-raised, open-parts, over-raised, shallow-raised}
 use Rattle.agreement.proofs.Found.{absent-is, found-above, found-upTo}
 

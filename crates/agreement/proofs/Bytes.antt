@@ -15,7 +15,7 @@ use Rattle.model.specs.Sound.{Sound}
 use Rattle.model.specs.Pager.{cut, holds, evicted, stillDirty}
 use Rattle.model.specs.Bytes.{Deed, reads, writes, settles, Paged, pagedFresh, savedBelow, pagedRead, pagedWrite, pagedSettle, pagedRun, given, bookStep, bookRun}
 use Rattle.model.proofs.Uses.{sound-fresh, sound-used, used-in}
-use Rattle.agreement.proofs.Moves.{sound-cut, others}
+use Rattle.model.proofs.Moves.{sound-cut, others}
 use Rattle.agreement.proofs.Found.{frames, holds-cases}
 
 -- A frame has the book's bytes; so has the store below for each page that is not dirty; and a dirty page has a frame.

@@ -22,7 +22,7 @@ use Rattle.model.specs.Order.{Rule, used, depthOf}
 use Rattle.model.specs.Windows.{raised, watched, isOpen, over, noted, absent}
 use Rattle.model.specs.Ledger.{Ledger, unseen, shownRead, shownWrite, shownSettle, shownAll}
 use Rattle.model.specs.Rows.{above, rowFaults, rowSaves}
-use Rattle.agreement.proofs.Moves.{weigh-ones}
+use Rattle.model.proofs.Moves.{weigh-ones}
 use Rattle.agreement.proofs.Marks.{open-parts}
 use Rattle.agreement.proofs.Agrees.{Fits}
 

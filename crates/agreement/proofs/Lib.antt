@@ -1,4 +1,3 @@
-pub mod Moves
 pub mod Marks
 pub mod Found
 pub mod Agrees
@@ -9,4 +8,4 @@ pub mod Plain
 pub mod Lru
 pub mod Joined
 pub mod Bigger
-pub mod Cases
+pub mod Worked

@@ -18,7 +18,7 @@ use Rattle.model.specs.declared.Call.the-variants.{Use, Settle}
 use Rattle.model.specs.Order.{Rule, Order, fresh, used}
 use Rattle.model.specs.Pager.{cut, fault, Pager, pagerFresh, pagerUse, pagerSettle, pagerRun}
 use Rattle.model.specs.Lru.{usesOf, lruUsed, lruFaultsFrom, lruFaults}
-use Rattle.agreement.proofs.Moves.{take-nil, cut-fresh, cut-used}
+use Rattle.model.proofs.Moves.{take-nil, cut-fresh, cut-used}
 use Rattle.agreement.proofs.Found.{frames, holds-cases}
 use Rattle.agreement.proofs.Recency.{Recent, recent-used}
 use Rattle.agreement.proofs.Plain.{Plain, plain-fresh, plain-used}

@@ -1,3 +1,4 @@
 pub mod Uses
 pub mod Marks
 pub mod Named
+pub mod Moves
