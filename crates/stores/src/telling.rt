@@ -7,18 +7,18 @@ use store::StoreRefusal;
 
 // Why the program stopped: a store refused what it should have accepted, or nothing more could be written.
 #[derive(Drop)]
-pub enum Trouble {
+pub(crate) enum Trouble {
     Refused(StoreRefusal),
     Output(io::Error),
 }
 
-pub impl From<StoreRefusal> for Trouble as TroubleFromRefusal {
+pub(crate) impl From<StoreRefusal> for Trouble as TroubleFromRefusal {
     fn from(refusal: StoreRefusal) -> Trouble {
         Trouble::Refused(refusal)
     }
 }
 
-pub impl From<io::Error> for Trouble as TroubleFromOutput {
+pub(crate) impl From<io::Error> for Trouble as TroubleFromOutput {
     fn from(error: io::Error) -> Trouble {
         Trouble::Output(error)
     }
@@ -36,7 +36,7 @@ fn tell_result(rt: &LibcRuntime, answer: Result<(), StoreRefusal>) -> io::Result
 }
 
 // A call and its answer.
-pub fn tell_answer(
+pub(crate) fn tell_answer(
     rt: &LibcRuntime,
     call: &str,
     answer: Result<(), StoreRefusal>,
@@ -65,7 +65,7 @@ fn tell_transfer(
 }
 
 // Fetches a page, and tells the answer and the buffer.
-pub fn try_fetch<S: PageStore>(
+pub(crate) fn try_fetch<S: PageStore>(
     rt: &LibcRuntime,
     store: &mut S,
     page: usize,
@@ -80,7 +80,7 @@ pub fn try_fetch<S: PageStore>(
 }
 
 // Saves a page, and tells the answer and the buffer.
-pub fn try_save<S: PageStore>(
+pub(crate) fn try_save<S: PageStore>(
     rt: &LibcRuntime,
     store: &mut S,
     page: usize,
@@ -95,7 +95,7 @@ pub fn try_save<S: PageStore>(
 }
 
 // The questions that a store answers.
-pub fn tell_store<S: PageStore>(rt: &LibcRuntime, name: &str, store: &S) -> io::Result<()>
+pub(crate) fn tell_store<S: PageStore>(rt: &LibcRuntime, name: &str, store: &S) -> io::Result<()>
     requires { ⌜ S·PageStore .opened (now store) ⌝ }
 {
     let pages = store.pages();
@@ -108,7 +108,7 @@ pub fn tell_store<S: PageStore>(rt: &LibcRuntime, name: &str, store: &S) -> io::
 }
 
 // The bytes of a memory at some places.
-pub fn tell_memory(
+pub(crate) fn tell_memory(
     rt: &LibcRuntime,
     name: &str,
     memory: &[u8],
