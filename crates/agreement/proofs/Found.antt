@@ -1,5 +1,5 @@
 -- A use is a fault or a reclaim of the pager of bottom l by the depth at which the census found the page.
-use Rattle.std.proofs.Common.{◌≡◌, ℕ, ◌+◌, ◌<◌, ◌≤◌, true, false, eqb, ltb, ◌⊎◌, List, take, refl, inl, inr, zero-le, arith}
+use Rattle.std.proofs.Common.{◌≡◌, ℕ, ◌+◌, ◌<◌, ◌≤◌, eqb, ltb, List, take, refl, inl, inr, zero-le, arith}
 use Rattle.std.proofs.lemmas.Bool.{lt-ltb, le-ltb}
 use Rattle.lists.specs.Weights.{one, occ}
 use Rattle.lists.specs.Places.{place}
@@ -8,7 +8,7 @@ use Rattle.lists.proofs.Places.{beyond, place_some}
 use Rattle.model.specs.Order.{Order, depth_of}
 use Rattle.model.specs.Windows.{noted, absent}
 use Rattle.model.specs.Rows.{above, up_to}
-use Rattle.model.specs.Pager.{cut, holds, fault, reclaim}
+use Rattle.model.specs.Pager.{cut, fault, reclaim}
 
 -- A page was new exactly if it has no place anywhere.
 pub absent_is : (p : ℕ) (o : Order) → absent (depth_of p o) ≡ fault p o

@@ -1,4 +1,6 @@
 // The promise that joins the pager, the census and plain LRU, as a law over every list of calls.
+#![tactic(auto)]
+
 ghost use Rattle.std.specs.Prelude.{◌≡◌, true};
 ghost use Rattle.agreement.specs.Law.{Agreement};
 ghost use Rattle.agreement.specs.Bigger.{BiggerHolds};

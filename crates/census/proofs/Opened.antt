@@ -1,17 +1,15 @@
 -- A census that was just opened means that nothing was shown.
-use Rattle.std.proofs.Common.{◌≡◌, ℕ, zero, suc, ◌+◌, ◌*◌, ◌<◌, ◌≤◌, List, [], map, length, get_or, replicate, Some, None, Ok, Option, sym, refl, ap, ◌∙◌, zero-le, arith}
+use Rattle.std.proofs.Common.{◌≡◌, ℕ, zero, suc, ◌+◌, ◌*◌, ◌≤◌, List, [], map, get_or, replicate, Ok, sym, refl, ap, arith}
 use Rattle.std.proofs.lemmas.List.{length-replicate}
 use Rattle.std.proofs.lemmas.Bool.Decides.{nat_tests}
-use Rattle.lists.specs.Places.{place}
 use Rattle.model.specs.Order.{fresh}
 use Rattle.model.specs.Ledger.{unseen}
 use Rattle.model.specs.Windows.{raised}
-use Rattle.links.specs.declared.Part.TheVariants.{Unused}
 use Rattle.order.specs.Views.{Views}
 use Rattle.order.specs.Stands.{AllUnused, Stands}
 use Rattle.census.specs.declared.page.PageRecord.{PageRecord}
 use Rattle.census.specs.declared.state.Census.{Census}
-use Rattle.census.specs.Views.{blank, marks, orderly}
+use Rattle.census.specs.Views.{blank, orderly}
 use Rattle.census.specs.Refusals.{needed, may_open, may_keep, may_show, may_ask}
 use Rattle.census.specs.Columns.{Column}
 use Rattle.census.specs.Means.{Means}

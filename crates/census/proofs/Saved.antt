@@ -1,5 +1,5 @@
 -- The open windows of a row, as the tables tell them.
-use Rattle.std.proofs.Common.{◌≡◌, ℕ, ◌+◌, List, length, get_or, drop, None, sym, refl, ap, ◌∙◌}
+use Rattle.std.proofs.Common.{◌≡◌, ℕ, ◌+◌, List, length, get_or, drop, None, ap, ◌∙◌}
 use Rattle.lists.specs.Weights.{total, weigh}
 use Rattle.lists.specs.Places.{place}
 use Rattle.lists.proofs.Totals.{total_same}

@@ -1,11 +1,11 @@
 -- The open windows with a mark above l: those whose stored mark is, and those whose page has sunk below l since.
-use Rattle.std.proofs.Common.{◌≡◌, ℕ, zero, suc, ◌+◌, ◌-◌, ◌%◌, ◌<◌, ◌≤◌, max, Bool, true, false, cond, not, eqb, ltb, ◌⊎◌, List, [], ◌∷◌, length, get_or, drop, Some, None, Option, sym, refl, ap, ◌∙◌, inl, inr, add-one, arith}
+use Rattle.std.proofs.Common.{◌≡◌, ℕ, zero, suc, ◌+◌, ◌-◌, ◌%◌, ◌<◌, ◌≤◌, max, cond, eqb, ltb, List, [], ◌∷◌, length, get_or, drop, Some, None, Option, sym, refl, ap, ◌∙◌, inl, inr, add-one, arith}
 use Rattle.std.proofs.lemmas.List.{get_or-map}
 use Rattle.std.proofs.lemmas.Bool.{lt-ltb, le-ltb}
 use Rattle.lists.specs.Weights.{occ, one, total, weigh}
 use Rattle.lists.specs.Places.{place}
 use Rattle.lists.proofs.Weights.{ltb_cases, weigh_parts}
-use Rattle.lists.proofs.Totals.{total_add, total_same, total-occ}
+use Rattle.lists.proofs.Totals.{total_add, total-occ}
 use Rattle.lists.proofs.Places.{beyond}
 use Rattle.links.specs.Chain.{Chain}
 use Rattle.model.specs.Windows.{raised, over, shallow}

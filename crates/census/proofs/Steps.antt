@@ -1,12 +1,11 @@
 -- The census still means the ledger after each call, one call on.
-use Rattle.std.proofs.Common.{◌≡◌, ℕ, ◌+◌, ◌*◌, ◌%◌, ◌<◌, ◌≤◌, Bool, true, false, cond, eqb, ltb, ◌≢◌, ◌⊎◌, List, ◌∷◌, length, get_or, set, Some, None, Option, sym, refl, ap, ◌∙◌, inl, inr, arith}
+use Rattle.std.proofs.Common.{◌≡◌, ℕ, ◌+◌, ◌*◌, ◌%◌, ◌<◌, ◌≤◌, cond, eqb, ◌≢◌, List, length, get_or, set, Some, None, Option, sym, refl, ap, ◌∙◌, inl, inr, arith}
 use Rattle.std.proofs.lemmas.List.{length-map, get_or-set_same, get_or-set_other}
-use Rattle.std.proofs.lemmas.Bool.{eq-eqb, ne_eqb}
-use Rattle.lists.specs.Weights.{occ, total}
+use Rattle.lists.specs.Weights.{total}
 use Rattle.lists.specs.Places.{place}
 use Rattle.lists.proofs.Weights.{eqb_cases}
 use Rattle.lists.proofs.Places.{place_none}
-use Rattle.lists.proofs.Totals.{total_same, total_wrap}
+use Rattle.lists.proofs.Totals.{total_same}
 use Rattle.model.specs.Order.{Rule, Order, used, depth_of}
 use Rattle.model.specs.Windows.{raised, is_open, absent, noted}
 use Rattle.model.specs.Ledger.{Ledger, shown_read, shown_write, shown_settle}
@@ -17,8 +16,7 @@ use Rattle.order.specs.Stands.{Stands}
 use Rattle.census.specs.declared.page.PageRecord.{PageRecord}
 use Rattle.census.specs.Views.{marks, orderly}
 use Rattle.census.specs.declared.state.Census.{Census}
-use Rattle.census.specs.Refusals.{needed}
-use Rattle.census.specs.Columns.{noted_in, Column, reads_from, writes_from, ended_from}
+use Rattle.census.specs.Columns.{noted_in}
 use Rattle.census.specs.SameBut.{SameBut}
 use Rattle.census.specs.Means.{Low, Means}
 use Rattle.census.proofs.Columns.{column_noted, column_kept, length-noted}

@@ -1,9 +1,9 @@
 -- Sums of a column's places.
-use Rattle.std.proofs.Common.{◌≡◌, ℕ, zero, suc, ◌+◌, ◌%◌, ◌<◌, ◌≤◌, Bool, true, false, cond, not, ◌&&◌, ltb, ◌⊎◌, List, get_or, sym, refl, ap, ◌∙◌, inl, inr, add-one, arith}
+use Rattle.std.proofs.Common.{◌≡◌, ℕ, ◌+◌, ◌%◌, ◌<◌, ◌≤◌, cond, not, ◌&&◌, ltb, List, get_or, sym, ap, ◌∙◌, inl, inr, add-one, arith}
 use Rattle.std.proofs.lemmas.Bool.{lt-ltb, le-ltb}
-use Rattle.lists.specs.Weights.{occ, one, weigh, total}
+use Rattle.lists.specs.Weights.{occ, total}
 use Rattle.lists.proofs.Weights.{ltb_cases}
-use Rattle.lists.proofs.Totals.{total_zero, total_same, total_wrap, total-occ, total_beyond}
+use Rattle.lists.proofs.Totals.{total_zero, total_wrap, total-occ, total_beyond}
 use Rattle.model.specs.Rows.{wrapped, above, up_to}
 use Rattle.census.specs.Columns.{Column}
 

@@ -1,6 +1,6 @@
 -- What a table that stands for an order tells of depths and marks.
-use Rattle.std.proofs.Common.{◌≡◌, ℕ, ◌+◌, ◌<◌, ◌≤◌, max, cond, ltb, ◌⊎◌, List, [], ◌∷◌, map, length, get_or, Some, None, Option, sym, refl, ap, ◌∙◌, inl, inr, zero-le, arith}
-use Rattle.lists.specs.Weights.{occ, has}
+use Rattle.std.proofs.Common.{◌≡◌, ℕ, ◌≤◌, List, [], ◌∷◌, map, length, Some, None, Option, sym, refl, ap, ◌∙◌, inl, inr, zero-le, arith}
+use Rattle.lists.specs.Weights.{occ}
 use Rattle.lists.specs.Places.{place}
 use Rattle.lists.proofs.Weights.{ltb_cases}
 use Rattle.lists.proofs.Places.{place_le}

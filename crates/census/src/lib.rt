@@ -3,6 +3,8 @@
 //
 // It follows a pager whose bottom is without limit. It keeps one record for each page in the caller's page table,
 // and its counts in the caller's count table. The tables go with every call.
+#![tactic(auto)]
+
 mod checks;
 mod counts;
 mod opening;

@@ -1,5 +1,5 @@
 -- From a check and a pass over the lines to a recording that was counted.
-use Rattle.std.proofs.Common.{◌≡◌, ℕ, Bool, true, false, cond, ◌||◌, ltb, List, length, Ok, Err, Result, sym, refl, ap, ◌∙◌, subst, arith}
+use Rattle.std.proofs.Common.{◌≡◌, ℕ, Bool, true, false, cond, ◌||◌, ltb, List, Ok, Err, Result, sym, refl, ap, ◌∙◌, subst, arith}
 use Rattle.model.specs.Ledger.{unseen, shown_all}
 use Rattle.census.specs.declared.page.PageRecord.{PageRecord}
 use Rattle.census.specs.declared.refusal.CensusRefusal.{CensusRefusal}
@@ -9,8 +9,7 @@ use Rattle.lines.specs.declared.CallRecord.{CallRecord}
 use Rattle.recordings.specs.declared.RunFault.{RunFault}
 use Rattle.recordings.specs.declared.RunFault.TheVariants.{TableShort}
 use Rattle.recordings.specs.declared.Summary.{Summary}
-use Rattle.recordings.specs.Passes.{later_lines, calls_in}
-use Rattle.recordings.specs.Whole.{Recording, calls_of}
+use Rattle.recordings.specs.Passes.{later_lines}
 use Rattle.recordings.proofs.Checked.{Checked, lines_at}
 use Rattle.counting.specs.declared.counted.Counted.{Counted}
 use Rattle.counting.specs.Calls.{calls_found}

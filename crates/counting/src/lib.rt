@@ -1,4 +1,6 @@
 // A recording counted: a census opened by its header and shown every call of it.
+#![tactic(auto)]
+
 mod counted;
 mod passes;
 mod whole;

@@ -1,4 +1,6 @@
 // One line of a recording: a header, a use or a settle.
+#![tactic(auto)]
+
 ghost use Rattle.std.specs.Prelude.{◌≡◌, IfOk};
 ghost use Rattle.std.specs.Result.{result_map_both};
 ghost use Rattle.lines.specs.Problems.{number_of};

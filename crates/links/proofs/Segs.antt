@@ -1,7 +1,7 @@
 -- Laws of a list's parts: they split and join at ++, and writes elsewhere keep them.
 use Rattle.std.proofs.Common.{◌≡◌, ℕ, ◌+◌, ◌<◌, ◌≤◌, ◌≢◌, List, [], ◌∷◌, ◌++◌, length, get_or, Some, None, Option, sym, refl, ap, ◌∙◌, inl, inr, arith, get_or-set_other, get_or-set_same}
 use Rattle.std.proofs.lemmas.Bool.{eq-eqb, ne_eqb}
-use Rattle.lists.specs.Weights.{one, occ, Once}
+use Rattle.lists.specs.Weights.{occ, Once}
 use Rattle.lists.proofs.Weights.{eqb_cases}
 use Rattle.links.specs.Segs.{head_of, end_of, Seg}
 use Rattle.links.specs.Writes.{set_link, end_link}

@@ -3,6 +3,8 @@
 // The table's records hold the links, and `Ends` holds where the list begins and ends. Any other
 // content of a record is left as it is. Each index is tested, so that a table whose links are
 // damaged leads to a wrong list at worst.
+#![tactic(auto)]
+
 ghost use Rattle.std.specs.Prelude.{◌≡◌, ℕ, ◌-◌, ◌<◌, ◌≤◌, List, [], ◌∷◌, ◌++◌, map, length, Some, None, Option};
 ghost use Rattle.links.specs.declared.Part.{Part};
 ghost use Rattle.links.specs.declared.Part.TheVariants.{Unused};

@@ -1,4 +1,6 @@
 // Reads a recording from standard input and prints its listing, or the fault that makes it unfit.
+#![tactic(auto)]
+
 use std::io::{Read, Write};
 
 // One byte more than the longest recording: what is longer is unfit, whatever follows.

@@ -1,4 +1,6 @@
 // The listing of a recording: the row of every bottom size, or the one fault that makes the recording unfit.
+#![tactic(auto)]
+
 ghost use Rattle.std.specs.Prelude.{◌≡◌, ◌≤◌, ◌++◌, length, IfOk, Ok, vec_len, OnOk};
 ghost use Rattle.std.specs.List.{range_with_len as up_to, flat_map};
 ghost use Rattle.fields.specs.Justified.{justified};

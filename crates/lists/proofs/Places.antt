@@ -1,8 +1,8 @@
 -- Laws of place: where a number stands in a list.
-use Rattle.std.proofs.Common.{◌≡◌, ℕ, zero, suc, ◌+◌, ◌<◌, ◌≤◌, Bool, true, false, cond, eqb, ltb, ◌≢◌, ◌⊎◌, List, [], ◌∷◌, ◌++◌, length, get_or, take, drop, sym, refl, ap, ◌∙◌, inl, inr, zero-le, arith}
+use Rattle.std.proofs.Common.{◌≡◌, ℕ, zero, suc, ◌+◌, ◌<◌, ◌≤◌, eqb, ltb, List, [], ◌∷◌, length, get_or, drop, refl, ap, ◌∙◌, inl, inr, zero-le, arith}
 use Rattle.std.proofs.lemmas.Bool.{cases_lt, lt-ltb, le-ltb, eq-eqb, ne_eqb}
-use Rattle.lists.specs.Weights.{weigh, one, occ}
-use Rattle.lists.specs.Places.{without, place_from, place}
+use Rattle.lists.specs.Weights.{one, occ}
+use Rattle.lists.specs.Places.{place_from, place}
 use Rattle.lists.proofs.Weights.{eqb_cases, weigh_parts}
 
 pub place_some : (d q : ℕ) (bs : List ℕ) → 0 < occ q bs → d < place_from d q bs

@@ -1,8 +1,8 @@
 -- A list whose numbers are renamed by a function that tells them apart.
-use Rattle.std.proofs.Common.{◌≡◌, ℕ, ◌+◌, ◌<◌, ◌≤◌, Bool, true, false, cond, eqb, ◌≢◌, ◌⊎◌, List, [], ◌∷◌, map, sym, refl, ap, ◌∙◌, inl, inr, arith}
+use Rattle.std.proofs.Common.{◌≡◌, ℕ, ◌+◌, ◌<◌, ◌≤◌, cond, eqb, ◌≢◌, List, [], ◌∷◌, map, refl, ap, ◌∙◌, inl, inr, arith}
 use Rattle.std.proofs.lemmas.Bool.{eq-eqb, ne_eqb}
-use Rattle.lists.specs.Weights.{weigh, one, occ}
-use Rattle.lists.specs.Places.{without, place_from, place}
+use Rattle.lists.specs.Weights.{occ}
+use Rattle.lists.specs.Places.{without, place_from}
 use Rattle.lists.specs.Renamed.{Tells}
 use Rattle.lists.proofs.Weights.{eqb_cases}
 

@@ -1,8 +1,8 @@
 -- The bytes of a pager, deed by deed, against the byte book.
-use Rattle.std.proofs.Common.{◌≡◌, ℕ, ◌+◌, ◌<◌, true, false, cond, not, eqb, ◌≢◌, List, [], ◌∷◌, sym, refl, inl, inr, arith}
+use Rattle.std.proofs.Common.{◌≡◌, ℕ, ◌+◌, ◌<◌, true, false, cond, not, ◌≢◌, List, [], ◌∷◌, sym, refl, inl, inr, arith}
 use Rattle.std.specs.List.{AllByRecursion as All}
 use Rattle.std.proofs.lemmas.Bool.{cases_Bool, both_ways, eq-eqb, ltb-false, and_parts, not-true}
-use Rattle.lists.specs.Weights.{one, occ, has}
+use Rattle.lists.specs.Weights.{occ, has}
 use Rattle.lists.proofs.Weights.{eqb_cases}
 use Rattle.model.specs.Order.{Rule, used}
 use Rattle.model.specs.Sound.{Sound}

@@ -1,6 +1,6 @@
 -- A mark that is stored when its page is used, and joined with the page's depth when it is asked for,
 -- is the mark that every call raises: no use leaves another page less deep.
-use Rattle.std.proofs.Common.{◌≡◌, ℕ, ◌+◌, ◌<◌, ◌≤◌, max, Bool, true, false, cond, eqb, ltb, ◌≢◌, ◌⊎◌, List, [], ◌∷◌, ◌++◌, length, get_or, set, Some, None, Option, sym, refl, ap, ◌∙◌, inl, inr, zero-le, arith}
+use Rattle.std.proofs.Common.{◌≡◌, ℕ, ◌+◌, ◌<◌, ◌≤◌, ◌≢◌, List, [], ◌∷◌, length, get_or, Some, None, Option, sym, refl, ap, ◌∙◌, inl, inr, zero-le, arith}
 use Rattle.lists.specs.Weights.{occ}
 use Rattle.lists.specs.Places.{without, place_from, place}
 use Rattle.lists.proofs.Weights.{eqb_cases, ltb_cases}

@@ -2,7 +2,7 @@
 use Rattle.std.proofs.Common.{◌≡◌, ℕ, zero, suc, ◌+◌, ◌<◌, ◌≤◌, true, false, cond, eqb, ◌≢◌, ◌⊎◌, List, [], ◌∷◌, length, get_or, take, drop, sym, refl, ap, ◌∙◌, inl, inr, arith}
 use Rattle.std.proofs.lemmas.List.{length-append, length-set, length-take, take-take, drop_all}
 use Rattle.std.proofs.lemmas.Bool.{ne_eqb}
-use Rattle.lists.specs.Weights.{weigh, one, occ}
+use Rattle.lists.specs.Weights.{one, occ}
 use Rattle.lists.specs.Places.{without}
 use Rattle.lists.proofs.Weights.{eqb_cases, ltb_cases, weigh_push, weigh-set, weigh_parts, weigh_ones, weigh-without, without_none, occ-without}
 use Rattle.model.specs.Order.{Rule, Order, fresh, used}

@@ -1,9 +1,9 @@
 -- What one use does to a sound order.
-use Rattle.std.proofs.Common.{◌≡◌, ℕ, zero, suc, ◌+◌, ◌<◌, ◌≤◌, Bool, true, false, cond, eqb, ltb, ◌≢◌, ◌⊎◌, List, [], ◌∷◌, ◌++◌, length, get_or, set, unwrap_or, sym, refl, ap, ◌∙◌, inl, inr, zero-le, arith}
+use Rattle.std.proofs.Common.{◌≡◌, ℕ, ◌+◌, ◌<◌, ◌≤◌, cond, eqb, ltb, List, length, get_or, unwrap_or, sym, refl, inl, inr, zero-le, arith}
 use Rattle.std.proofs.lemmas.List.{length-append, length-set}
-use Rattle.std.proofs.lemmas.Bool.{cases_lt, lt-ltb, le-ltb, eq-eqb, ne_eqb}
-use Rattle.lists.specs.Weights.{weigh, one, occ, has}
-use Rattle.lists.specs.Places.{without, place_from, place}
+use Rattle.std.proofs.lemmas.Bool.{lt-ltb, le-ltb, eq-eqb}
+use Rattle.lists.specs.Weights.{one, occ}
+use Rattle.lists.specs.Places.{place}
 use Rattle.lists.proofs.Weights.{eqb_cases, ltb_cases, weigh_push, weigh-set, weigh-get_or, occ-without}
 use Rattle.lists.proofs.Places.{place_none}
 use Rattle.model.specs.Order.{Rule, Order, fresh, entered, exchanged, used, depth_of}

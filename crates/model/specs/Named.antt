@@ -1,4 +1,4 @@
-use Rattle.std.specs.Prelude.{ℕ, List, map}
+use Rattle.std.specs.Prelude.{ℕ, map}
 use Rattle.model.specs.Order.{Order}
 
 -- An order whose numbers are renamed: frames by the pages that they hold.

@@ -1,5 +1,6 @@
 // What the pager and the census are measured against: calls, rows, and the models of both.
 // The models are definitions in specs/, over lists of page numbers; the laws about them are in proofs/.
+#![tactic(auto)]
 
 // How a page is used.
 #[derive(Clone, Copy)]

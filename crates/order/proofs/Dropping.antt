@@ -1,12 +1,11 @@
 -- The last of the bottom is taken out.
-use Rattle.std.proofs.Common.{◌≡◌, ℕ, suc, ◌+◌, ◌-◌, ◌<◌, ◌≤◌, true, false, eqb, ltb, ◌≢◌, ◌⊎◌, List, [], ◌∷◌, ◌++◌, length, get_or, take, set, Some, None, Option, sym, refl, ap, ◌∙◌, inl, inr, append-nil, arith}
+use Rattle.std.proofs.Common.{◌≡◌, ℕ, suc, ◌+◌, ◌-◌, ◌<◌, ◌≤◌, eqb, ◌≢◌, List, [], ◌∷◌, ◌++◌, length, get_or, take, set, Some, None, sym, refl, ap, ◌∙◌, inl, inr, append-nil, arith}
 use Rattle.std.proofs.lemmas.List.{get_or-set_same, get_or-set_other}
-use Rattle.std.proofs.lemmas.Bool.{le-ltb, eq-eqb, ne_eqb}
+use Rattle.std.proofs.lemmas.Bool.{eq-eqb, ne_eqb}
 use Rattle.lists.specs.Weights.{one, occ}
 use Rattle.lists.proofs.Weights.{eqb_cases, ltb_cases, weigh_push}
-use Rattle.links.specs.declared.Ends.{Ends}
 use Rattle.links.specs.declared.Part.{Part}
-use Rattle.links.specs.declared.Part.TheVariants.{Unused, Top, Bottom}
+use Rattle.links.specs.declared.Part.TheVariants.{Unused}
 use Rattle.links.specs.Segs.{end_of}
 use Rattle.links.proofs.Segs.{last_occ}
 use Rattle.links.proofs.Holding.{holds_member}

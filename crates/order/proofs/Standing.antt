@@ -1,9 +1,9 @@
 -- The two parts and the table still stand for the order after each move.
-use Rattle.std.proofs.Common.{◌≡◌, ℕ, ◌+◌, ◌-◌, ◌<◌, ◌≤◌, Bool, true, false, cond, eqb, ltb, ◌≢◌, ◌⊎◌, List, [], ◌∷◌, ◌++◌, map, length, get_or, take, set, Some, None, Option, sym, refl, ap, ◌∙◌, subst, inl, inr, arith}
+use Rattle.std.proofs.Common.{◌≡◌, ℕ, ◌+◌, ◌-◌, ◌<◌, ◌≤◌, true, false, cond, eqb, ltb, ◌≢◌, List, [], ◌∷◌, ◌++◌, length, get_or, set, Some, None, sym, refl, ap, ◌∙◌, inl, inr, arith}
 use lib.Seq.{take-set-lt}
 use Rattle.std.proofs.lemmas.List.{length-append, length-set, get_or-set_same, get_or-set_other, get_or-take, get_or_past, take_more_set}
-use Rattle.std.proofs.lemmas.Bool.{cases_lt, lt-ltb, le-ltb, ltb-true, ltb-false, eq-eqb, ne_eqb}
-use Rattle.lists.specs.Weights.{weigh, one, occ, has}
+use Rattle.std.proofs.lemmas.Bool.{cases_lt, lt-ltb, le-ltb, ltb-false, eq-eqb, ne_eqb}
+use Rattle.lists.specs.Weights.{one, occ, has}
 use Rattle.lists.specs.Places.{without, place}
 use Rattle.lists.proofs.Weights.{eqb_cases, ltb_cases, weigh_push, weigh-set, occ-without, without_none}
 use Rattle.lists.proofs.Places.{place_found, occ_found, occ_nowhere}
@@ -11,7 +11,6 @@ use Rattle.links.specs.declared.Ends.{Ends}
 use Rattle.links.specs.declared.Part.{Part}
 use Rattle.links.specs.declared.Part.TheVariants.{Unused, Top, Bottom}
 use Rattle.model.specs.Order.{Rule, Order, fresh, entered, exchanged, used, depth_of, slot_of}
-use Rattle.model.specs.Sound.{Sound}
 use Rattle.model.proofs.Uses.{sound_fresh, sound_entered, sound_exchanged, once_bottom, only_bottom, slot_in}
 use Rattle.order.specs.declared.parts.TwoParts.{TwoParts}
 use Rattle.order.specs.Views.{Views, LinkedAs}

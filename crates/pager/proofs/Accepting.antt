@@ -1,13 +1,13 @@
 -- A pager as a store: what an accepted and a refused call do to its meaning.
-use Rattle.std.proofs.Common.{◌≡◌, ℕ, ◌<◌, cond, eqb, List, [], length, get_or, set, Ok, Err, sym, refl, ap, ◌∙◌, inl, inr, arith}
+use Rattle.std.proofs.Common.{◌≡◌, ℕ, ◌<◌, List, [], length, get_or, set, Ok, Err, sym, refl, ap, ◌∙◌, inl, inr, arith}
 use Rattle.lists.proofs.Weights.{eqb_cases}
 use Rattle.store.specs.declared.StoreRefusal.{StoreRefusal}
-use Rattle.store.specs.Meaning.{Meaning, counted, fetched, saved}
+use Rattle.store.specs.Meaning.{Meaning, counted}
 use Rattle.store.specs.Sized.{Sized}
 use Rattle.store.specs.Uses.{may_use, Fetched, Saved}
 use Rattle.store.proofs.Calls.{accepted_length, accepted_page}
 use Rattle.model.specs.Order.{Rule}
-use Rattle.model.specs.Bytes.{Paged, paged_read, paged_write, writes, book_step}
+use Rattle.model.specs.Bytes.{paged_read, paged_write, writes, book_step}
 use Rattle.model.proofs.Bytes.{kept_read, kept_write}
 use Rattle.pager.specs.declared.state.Pager.{Pager}
 use Rattle.pager.specs.Frames.{at, In}

@@ -1,16 +1,14 @@
 -- A pager after a use of a page that had no frame.
-use Rattle.std.proofs.Common.{◌≡◌, ℕ, ◌+◌, ◌<◌, true, false, cond, ◌≢◌, List, [], ◌∷◌, length, sym, refl, ap, ◌∙◌, subst, arith}
+use Rattle.std.proofs.Common.{◌≡◌, ℕ, ◌<◌, cond, ◌≢◌, [], ◌∷◌, length, sym, refl, ap, ◌∙◌, subst}
 use Rattle.store.specs.Meaning.{Meaning}
 use Rattle.links.specs.declared.Part.TheVariants.{Unused}
-use Rattle.model.specs.Order.{Rule, Order, used}
+use Rattle.model.specs.Order.{Rule, used}
 use Rattle.model.specs.Pager.{cut, frames, evicted}
 use Rattle.model.specs.Bytes.{Paged}
-use Rattle.order.specs.declared.parts.TwoParts.{TwoParts}
-use Rattle.pager.specs.declared.frame.Frame.{Frame}
 use Rattle.pager.specs.declared.state.Pager.{Pager}
 use Rattle.pager.specs.Frames.{at, page_in, contents, taken, In, Absent, Apart, flushed}
 use Rattle.pager.specs.Framed.{Framed}
-use Rattle.pager.specs.Vacant.{held_by, Vacant, Taken}
+use Rattle.pager.specs.Vacant.{Vacant, Taken}
 use Rattle.pager.specs.Settings.{Setting, pages_of}
 use Rattle.pager.specs.Shows.{frames_of, FramesShow, Shows}
 use Rattle.pager.specs.Touched.{touched}

@@ -1,18 +1,17 @@
 -- A pager whose frame i was altered in its seat, its page being the same.
-use Rattle.std.proofs.Common.{◌≡◌, ℕ, ◌+◌, ◌<◌, true, false, cond, not, eqb, ◌≢◌, List, [], length, get_or, set, sym, refl, ap, ◌∙◌, subst, inl, inr, arith}
+use Rattle.std.proofs.Common.{◌≡◌, ℕ, ◌<◌, true, false, ◌≢◌, List, [], length, get_or, set, sym, refl, ap, ◌∙◌, subst, inl, inr, arith}
 use Rattle.std.proofs.lemmas.Bool.{cases_eq, eq-eqb, ne_eqb}
 use Rattle.store.specs.Meaning.{Meaning, fetched}
-use Rattle.lists.proofs.Weights.{eqb_cases}
-use Rattle.model.specs.Order.{Rule, Order}
+use Rattle.model.specs.Order.{Rule}
 use Rattle.model.specs.Pager.{holds}
-use Rattle.model.specs.Bytes.{Paged, paged_read, paged_write, saved_below}
+use Rattle.model.specs.Bytes.{Paged, paged_read, paged_write}
 use Rattle.order.specs.declared.parts.TwoParts.{TwoParts}
 use Rattle.pager.specs.declared.frame.Frame.{Frame}
 use Rattle.pager.specs.declared.state.Pager.{Pager}
-use Rattle.pager.specs.Frames.{at, page_in, taken, filled, written, In, Absent, Apart}
+use Rattle.pager.specs.Frames.{at, page_in, taken, filled, written, In, Apart}
 use Rattle.pager.specs.Framed.{Framed}
 use Rattle.pager.specs.Settings.{Setting, pages_of}
-use Rattle.pager.specs.Shows.{frames_of, FramesShow, StoreShows, CountsShow, Shows}
+use Rattle.pager.specs.Shows.{frames_of, FramesShow, Shows}
 use Rattle.pager.specs.Touched.{touched}
 use Rattle.pager.proofs.Naming.{at_here, at_other, as_long, in_other, framed_kept}
 

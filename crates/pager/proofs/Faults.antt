@@ -1,17 +1,16 @@
 -- What a fault does to an order whose frames are all taken, and to one that has room.
-use Rattle.std.proofs.Common.{◌≡◌, ℕ, zero, suc, ◌+◌, ◌-◌, ◌<◌, ◌≤◌, true, false, cond, eqb, ltb, ◌≢◌, List, [], ◌∷◌, ◌++◌, map, length, get_or, take, drop, set, sym, refl, ap, ◌∙◌, inl, inr, arith}
+use Rattle.std.proofs.Common.{◌≡◌, ℕ, zero, suc, ◌+◌, ◌-◌, ◌<◌, ◌≤◌, false, eqb, ltb, List, [], ◌∷◌, ◌++◌, map, length, get_or, take, drop, set, sym, refl, ap, ◌∙◌, inl, inr, arith}
 use Rattle.std.proofs.lemmas.List.{take_all, drop_all, drop_at, length-append, length-take}
-use Rattle.std.proofs.lemmas.Bool.{cases_lt, lt-ltb, le-ltb, eq-eqb, ne_eqb}
+use Rattle.std.proofs.lemmas.Bool.{cases_lt, le-ltb, eq-eqb}
 use Rattle.lists.specs.Weights.{one, occ}
-use Rattle.lists.specs.Places.{without}
-use Rattle.lists.proofs.Weights.{eqb_cases, ltb_cases, weigh_parts, weigh-get_or, without_none}
+use Rattle.lists.proofs.Weights.{eqb_cases, weigh_parts, without_none}
 use Rattle.model.specs.Order.{Rule, Order, exchanged, used}
 use Rattle.model.specs.Sound.{Sound}
 use Rattle.model.specs.Named.{named}
 use Rattle.order.specs.Steps.{asked, without_last}
 use Rattle.model.specs.Pager.{cut, frames, fault, evicted}
 use Rattle.model.proofs.Named.{same_order}
-use Rattle.model.proofs.Uses.{slot_in, used_in}
+use Rattle.model.proofs.Uses.{slot_in}
 use Rattle.model.proofs.Moves.{grown}
 use Rattle.pager.specs.Framed.{replacing}
 

@@ -1,5 +1,5 @@
 -- A pager that was just opened.
-use Rattle.std.proofs.Common.{◌≡◌, ℕ, ◌+◌, ◌<◌, true, false, List, [], length, get_or, replicate, sym, refl, ap, ◌∙◌, subst, arith}
+use Rattle.std.proofs.Common.{◌≡◌, ℕ, ◌+◌, ◌<◌, List, length, get_or, replicate, sym, refl, ap, ◌∙◌, arith}
 use Rattle.std.proofs.lemmas.List.{length-replicate, get_or-replicate, get_or-map}
 use Rattle.std.proofs.lemmas.Bool.{true≢false}
 use Rattle.links.specs.declared.Part.TheVariants.{Unused}
@@ -10,13 +10,12 @@ use Rattle.order.specs.declared.parts.TwoParts.{TwoParts}
 use Rattle.order.specs.Views.{Views}
 use Rattle.order.specs.Stands.{AllUnused, Stands}
 use Rattle.pager.specs.declared.frame.Frame.{Frame}
-use Rattle.pager.specs.Frames.{blank, idle, at, seats_of, taken, In, Absent, Apart}
+use Rattle.pager.specs.Frames.{blank, idle, at, seats_of, taken, In}
 use Rattle.pager.specs.Seats.{Seated}
-use Rattle.pager.specs.Framed.{Framed}
 use Rattle.pager.specs.Settings.{Setting, pages_of, untouched}
 use Rattle.pager.specs.declared.state.UseCounts.{UseCounts}
 use Rattle.pager.specs.declared.state.Pager.{Pager}
-use Rattle.pager.specs.Shows.{frames_of, FramesShow, StoreShows, CountsShow, Shows}
+use Rattle.pager.specs.Shows.{frames_of, FramesShow, Shows}
 
 -- Frames that were just laid out, under parts that were just made.
 module _ {X : Type 0} (told : X → ℕ) (state : ℕ) (c : TwoParts X) (count : ℕ) (t : List Frame) (laid : t ≡ replicate count idle)

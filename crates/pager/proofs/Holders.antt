@@ -1,23 +1,21 @@
 -- Pages and the frames that hold them, in a table that shows an order.
-use Rattle.std.proofs.Common.{◌≡◌, ℕ, ◌+◌, ◌<◌, ◌≤◌, Bool, true, false, cond, eqb, ltb, ◌≢◌, ◌⊎◌, List, [], ◌∷◌, ◌++◌, map, length, get_or, sym, refl, ap, ◌∙◌, subst, inl, inr, arith}
+use Rattle.std.proofs.Common.{◌≡◌, ℕ, ◌+◌, ◌<◌, ◌≤◌, Bool, true, false, eqb, ltb, List, ◌∷◌, ◌++◌, map, length, sym, ap, ◌∙◌, inl, inr, arith}
 use Rattle.std.proofs.lemmas.List.{length-map, length-append}
-use Rattle.std.proofs.lemmas.Bool.{cases_lt, lt-ltb, le-ltb, eq-eqb, ne_eqb}
-use Rattle.links.specs.declared.Part.{Part}
+use Rattle.std.proofs.lemmas.Bool.{cases_lt, lt-ltb, le-ltb, ne_eqb}
 use Rattle.links.specs.declared.Part.TheVariants.{Unused, Top, Bottom}
 use Rattle.lists.specs.Weights.{one, occ, has}
 use Rattle.lists.proofs.Weights.{eqb_cases, ltb_cases, weigh-append}
 use Rattle.lists.proofs.Totals.{pigeons, crowded}
 use Rattle.lists.proofs.Renamed.{occ_renamed, occ-named, named_by}
 use Rattle.model.specs.Order.{Order}
-use Rattle.model.specs.Named.{named}
 use Rattle.model.specs.Pager.{holds, frames}
 use Rattle.model.proofs.Moves.{holds_cases}
 use Rattle.order.specs.declared.parts.TwoParts.{TwoParts}
-use Rattle.order.specs.Stands.{part_of, Arranged}
+use Rattle.order.specs.Stands.{Arranged}
 use Rattle.pager.specs.declared.frame.Frame.{Frame}
 use Rattle.pager.specs.Frames.{at, page_in, seats_of, taken, In, Absent, Apart}
 use Rattle.pager.specs.Framed.{Framed, Alone}
-use Rattle.pager.proofs.Seating.{part_is, seated_low, seated_taken, taken_seated, tells_top, tells_bottom}
+use Rattle.pager.proofs.Seating.{part_is, seated_low, seated_taken, taken_seated, tells_top}
 
 -- The frames are arranged as an order of frames.
 module _ {X : Type 0} (c : TwoParts X) (t : List Frame) (o : Order) (a : Arranged c (seats_of t) o) where

@@ -1,5 +1,5 @@
 -- What a frame table shows once a frame left its bottom, or once the rule was asked for a slot.
-use Rattle.std.proofs.Common.{◌≡◌, ℕ, ◌+◌, ◌-◌, ◌<◌, ◌≤◌, Bool, true, false, cond, eqb, ltb, ◌⊎◌, List, [], ◌∷◌, ◌++◌, map, length, get_or, take, drop, Some, None, Option, sym, refl, ap, ◌∙◌, subst, inl, inr, arith, MatchOption}
+use Rattle.std.proofs.Common.{◌≡◌, ℕ, ◌+◌, ◌-◌, ◌<◌, ◌≤◌, eqb, List, [], ◌∷◌, ◌++◌, map, length, get_or, take, Some, None, Option, sym, refl, ap, ◌∙◌, subst, inl, inr, arith, MatchOption}
 use Rattle.std.proofs.lemmas.List.{get_or-map, length-map, take-map, map_push}
 use Rattle.std.proofs.lemmas.Bool.{eq-eqb, le-ltb}
 use Rattle.links.specs.declared.Part.TheVariants.{Unused}
@@ -7,17 +7,16 @@ use Rattle.links.specs.Segs.{end_of}
 use Rattle.lists.specs.Weights.{occ, one}
 use Rattle.lists.proofs.Weights.{weigh_parts, weigh_push, ltb_cases}
 use Rattle.model.specs.Order.{Rule, Order}
-use Rattle.model.specs.Named.{named}
 use Rattle.model.proofs.Named.{same_order, named_alike}
 use Rattle.model.proofs.Uses.{slot_in}
 use Rattle.order.specs.declared.parts.TwoParts.{TwoParts}
 use Rattle.order.specs.Views.{Views}
-use Rattle.order.specs.Stands.{part_of, Arranged, Stands}
+use Rattle.order.specs.Stands.{Arranged, Stands}
 use Rattle.order.specs.Steps.{without_last, asked}
 use Rattle.order.proofs.Standing.{arranged_stands}
 use Rattle.order.proofs.Dropping.{all_but_last, ends_nowhere}
 use Rattle.pager.specs.declared.frame.Frame.{Frame}
-use Rattle.pager.specs.Frames.{blank, at, page_in, contents, seats_of, taken, In, Apart}
+use Rattle.pager.specs.Frames.{blank, at, page_in, contents, seats_of, In, Apart}
 use Rattle.pager.specs.Seats.{Seated}
 use Rattle.pager.specs.Framed.{Framed, SameContents, Released, Left, Slotted}
 use Rattle.pager.proofs.Seating.{same_page, same_length, seated_low, seated_taken, taken_seated}

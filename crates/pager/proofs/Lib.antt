@@ -1,6 +1,7 @@
 pub mod Seating
 pub mod Naming
 pub mod Leaving
+pub mod Faults
 pub mod Fresh
 pub mod Holders
 pub mod Vacating

@@ -1,12 +1,11 @@
 -- What a frame table shows after one frame was written in its seat.
-use Rattle.std.proofs.Common.{◌≡◌, ℕ, ◌+◌, ◌<◌, ◌≤◌, Bool, true, false, cond, eqb, ◌≢◌, ◌⊎◌, List, [], ◌∷◌, map, length, get_or, set, Option, sym, refl, ap, ◌∙◌, subst, inl, inr, arith}
+use Rattle.std.proofs.Common.{◌≡◌, ℕ, ◌+◌, ◌<◌, true, ◌≢◌, ◌⊎◌, List, [], ◌∷◌, map, length, get_or, set, Option, sym, refl, ap, ◌∙◌, subst, inl, inr, arith}
 use Rattle.std.proofs.lemmas.List.{length-set, get_or_read, get_or-set_same, get_or-set_other}
 use Rattle.std.proofs.lemmas.Bool.{cases_eq, eq-eqb, ne_eqb}
 use Rattle.links.specs.declared.Part.{Part}
-use Rattle.links.specs.declared.Part.TheVariants.{Unused, Top, Bottom}
+use Rattle.links.specs.declared.Part.TheVariants.{Unused}
 use Rattle.links.proofs.Kept.{map_kept}
 use Rattle.lists.specs.Weights.{occ}
-use Rattle.lists.proofs.Weights.{eqb_cases}
 use Rattle.lists.proofs.Renamed.{same_names}
 use Rattle.model.specs.Order.{Order}
 use Rattle.model.specs.Named.{named}

@@ -1,7 +1,7 @@
 -- Where a page is, told by its frame.
-use Rattle.std.proofs.Common.{◌≡◌, ℕ, ◌+◌, ◌-◌, ◌<◌, true, false, ltb, List, map, length, Some, None, Option, sym, refl, ap, ◌∙◌, inl, inr, arith}
+use Rattle.std.proofs.Common.{◌≡◌, ℕ, ◌-◌, List, map, Some, None, Option, refl, ap, ◌∙◌, inl, inr, arith}
 use Rattle.std.proofs.lemmas.Bool.{lt-ltb, le-ltb}
-use Rattle.lists.specs.Weights.{occ, has}
+use Rattle.lists.specs.Weights.{occ}
 use Rattle.lists.specs.Places.{place}
 use Rattle.lists.proofs.Weights.{ltb_cases}
 use Rattle.lists.proofs.Renamed.{occ_renamed, place_renamed}
@@ -9,7 +9,6 @@ use Rattle.model.specs.Order.{Order, depth_of, slot_of}
 use Rattle.order.specs.declared.parts.TwoParts.{TwoParts}
 use Rattle.order.specs.Stands.{Arranged}
 use Rattle.pager.specs.declared.frame.Frame.{Frame}
-use Rattle.pager.specs.declared.places.Place.{Place}
 use Rattle.pager.specs.declared.places.Place.TheVariants.{InTop, InBottom, Nowhere}
 use Rattle.pager.specs.Frames.{page_in, seats_of, In, Absent, Apart}
 use Rattle.pager.specs.Framed.{Framed, Alone}

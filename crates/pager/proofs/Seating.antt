@@ -1,16 +1,14 @@
 -- What a frame table shows after its frames were seated anew.
-use Rattle.std.proofs.Common.{◌≡◌, ℕ, zero, suc, ◌+◌, ◌<◌, ◌≤◌, Bool, true, false, cond, eqb, ltb, ◌≢◌, ◌⊎◌, List, [], ◌∷◌, map, length, get_or, sym, refl, ap, ◌∙◌, subst, inl, inr, arith}
+use Rattle.std.proofs.Common.{◌≡◌, ℕ, zero, suc, ◌+◌, ◌<◌, true, ◌≢◌, List, [], ◌∷◌, map, length, get_or, sym, refl, ap, ◌∙◌, subst, inl, inr, arith}
 use mathlib.Core.Logic.{∥∥₁_elim}
 use native.Mathlib.Nat.{ℕ_set}
 use Rattle.std.proofs.lemmas.List.{get_or-map, length-map}
 use Rattle.std.proofs.lemmas.Bool.{cases_lt, cases_eq, lt-ltb, le-ltb}
-use Rattle.links.specs.declared.Part.{Part}
-use Rattle.links.specs.declared.Part.TheVariants.{Unused, Top, Bottom}
-use Rattle.lists.specs.Weights.{occ, one}
+use Rattle.links.specs.declared.Part.TheVariants.{Unused}
+use Rattle.lists.specs.Weights.{occ}
 use Rattle.lists.specs.Renamed.{Tells}
 use Rattle.lists.proofs.Weights.{ltb_cases}
 use Rattle.model.specs.Order.{Rule, Order, used}
-use Rattle.model.specs.Named.{named}
 use Rattle.model.proofs.Named.{used-named, named_alike}
 use Rattle.model.proofs.Uses.{used_in}
 use Rattle.model.proofs.Moves.{others}
@@ -18,7 +16,7 @@ use Rattle.order.specs.declared.parts.TwoParts.{TwoParts}
 use Rattle.order.specs.Stands.{part_of, Arranged, Stands}
 use Rattle.order.proofs.Standing.{arranged_stands}
 use Rattle.pager.specs.declared.frame.Frame.{Frame}
-use Rattle.pager.specs.Frames.{blank, at, page_in, contents, seats_of, taken, In, Absent, Apart}
+use Rattle.pager.specs.Frames.{blank, at, page_in, contents, seats_of, taken, In, Apart}
 use Rattle.pager.specs.Seats.{Seated}
 use Rattle.pager.specs.Framed.{Framed, Alone, SameContents, Sat}
 

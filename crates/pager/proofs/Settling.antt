@@ -1,19 +1,17 @@
 -- A pager in the course of a settle.
-use Rattle.std.proofs.Common.{◌≡◌, ℕ, zero, suc, ◌+◌, ◌<◌, ◌≤◌, true, false, cond, eqb, ltb, ◌≢◌, List, [], length, get_or, set, sym, refl, ap, ◌∙◌, subst, inl, inr, add-one, arith}
+use Rattle.std.proofs.Common.{◌≡◌, ℕ, ◌+◌, ◌<◌, true, false, cond, ltb, ◌≢◌, [], length, get_or, set, sym, refl, ap, ◌∙◌, subst, inl, inr, add-one, arith}
 use Rattle.std.proofs.lemmas.List.{ext_get_or, length-set, get_or-set_same, get_or-set_other}
-use Rattle.std.proofs.lemmas.Bool.{cases_lt, cases_eq, cases_Bool, lt-ltb, le-ltb}
+use Rattle.std.proofs.lemmas.Bool.{cases_eq, cases_Bool, lt-ltb, le-ltb}
 use Rattle.lists.specs.Weights.{one, total}
 use Rattle.lists.proofs.Weights.{ltb_cases}
 use Rattle.store.specs.Meaning.{Meaning}
 use Rattle.model.specs.Bytes.{Paged, paged_settle}
 use Rattle.model.specs.Kept.{Kept}
 use Rattle.model.proofs.Bytes.{kept_settle, settle_leaves}
-use Rattle.order.specs.declared.parts.TwoParts.{TwoParts}
-use Rattle.pager.specs.declared.frame.Frame.{Frame}
 use Rattle.pager.specs.declared.state.Pager.{Pager}
 use Rattle.pager.specs.Frames.{at, page_in, cleaned, flushed, In, Absent, Apart}
 use Rattle.pager.specs.Settings.{Setting, pages_of}
-use Rattle.pager.specs.Shows.{frames_of, FramesShow, StoreShows, CountsShow, Shows}
+use Rattle.pager.specs.Shows.{frames_of, StoreShows, CountsShow, Shows}
 use Rattle.pager.specs.Book.{pager_meaning}
 use Rattle.pager.specs.Ready.{Ready}
 use Rattle.pager.specs.Partly.{partly}

@@ -1,6 +1,6 @@
 -- A pager after a use of a page that has a frame, and one that has driven a page out.
-use Rattle.std.proofs.Common.{◌≡◌, ℕ, ◌+◌, ◌<◌, ◌≤◌, true, false, cond, eqb, ltb, ◌≢◌, List, [], ◌∷◌, length, get_or, set, sym, refl, ap, ◌∙◌, subst, inl, inr, arith}
-use Rattle.std.proofs.lemmas.List.{drop_all, length-set, set-set}
+use Rattle.std.proofs.Common.{◌≡◌, ℕ, ◌+◌, ◌<◌, ◌≤◌, true, false, List, [], ◌∷◌, length, set, sym, refl, ap, ◌∙◌, subst, inl, inr, arith}
+use Rattle.std.proofs.lemmas.List.{drop_all, set-set}
 use Rattle.std.proofs.lemmas.Bool.{cases_lt, cases_eq, le-ltb, true≢false}
 use Rattle.store.specs.Meaning.{Meaning}
 use Rattle.links.specs.declared.Part.{Part}
@@ -8,15 +8,14 @@ use Rattle.links.specs.declared.Part.TheVariants.{Unused, Top, Bottom}
 use Rattle.lists.specs.Weights.{occ, has}
 use Rattle.model.specs.Order.{Rule, Order, used}
 use Rattle.model.specs.Sound.{Sound}
-use Rattle.model.specs.Rows.{wrapped}
-use Rattle.model.specs.Pager.{cut, frames, evicted}
+use Rattle.model.specs.Pager.{frames, evicted}
 use Rattle.model.specs.Bytes.{Paged}
 use Rattle.pager.proofs.Faults.{cut_none}
 use Rattle.order.specs.declared.parts.TwoParts.{TwoParts}
 use Rattle.pager.specs.declared.frame.Frame.{Frame}
 use Rattle.pager.specs.declared.state.UseCounts.{UseCounts}
 use Rattle.pager.specs.declared.state.Pager.{Pager}
-use Rattle.pager.specs.Frames.{at, page_in, contents, cleaned, taken, In, Absent, Apart}
+use Rattle.pager.specs.Frames.{at, page_in, cleaned, taken, In, Apart}
 use Rattle.pager.specs.Framed.{Framed, SameContents, renamed, Sat}
 use Rattle.pager.specs.Vacant.{Vacant}
 use Rattle.pager.specs.Settings.{Setting, pages_of}
@@ -24,7 +23,7 @@ use Rattle.pager.specs.Shows.{frames_of, FramesShow, CountsShow, Shows}
 use Rattle.pager.specs.Touched.{touched}
 use Rattle.pager.specs.Counted.{hit, reclaimed, faulted, driven_out, found_in}
 use Rattle.pager.proofs.Seating.{same_at, same_page, same_length}
-use Rattle.pager.proofs.Naming.{at_here, at_other, in_other}
+use Rattle.pager.proofs.Naming.{at_here, in_other}
 use Rattle.pager.proofs.Holders.{in_order, page_in_top, page_in_bottom, bottom_fits}
 use Rattle.pager.proofs.Using.{use_found, store_kept}
 

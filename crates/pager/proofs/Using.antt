@@ -1,24 +1,22 @@
 -- What a pager shows once a page was used, before its bytes move.
-use Rattle.std.proofs.Common.{◌≡◌, ℕ, ◌+◌, ◌<◌, ◌≤◌, Bool, true, false, cond, not, ◌&&◌, eqb, ltb, ◌≢◌, ◌⊎◌, List, [], ◌∷◌, length, get_or, drop, set, sym, refl, ap, ◌∙◌, subst, inl, inr, arith}
-use Rattle.std.proofs.lemmas.List.{drop_all, length-set, get_or-set_same, get_or-set_other}
-use Rattle.std.proofs.lemmas.Bool.{cases_lt, cases_Bool, lt-ltb, le-ltb, eq-eqb, ne_eqb}
-use Rattle.store.specs.Meaning.{Meaning, saved}
+use Rattle.std.proofs.Common.{◌≡◌, ℕ, ◌+◌, ◌<◌, ◌≤◌, Bool, true, false, cond, ◌&&◌, eqb, ltb, ◌≢◌, List, [], ◌∷◌, length, get_or, set, sym, refl, ap, ◌∙◌, subst, inl, inr, arith}
+use Rattle.std.proofs.lemmas.List.{length-set, get_or-set_same, get_or-set_other}
+use Rattle.std.proofs.lemmas.Bool.{cases_lt, cases_Bool, lt-ltb, le-ltb, eq-eqb}
+use Rattle.store.specs.Meaning.{Meaning}
 use Rattle.lists.specs.Weights.{one, occ, has}
 use Rattle.lists.proofs.Weights.{eqb_cases, ltb_cases, weigh_parts}
 use Rattle.model.specs.Order.{Rule, Order, used}
-use Rattle.model.specs.Sound.{Sound}
 use Rattle.model.specs.Pager.{cut, holds, frames, evicted, still_dirty}
 use Rattle.model.specs.Bytes.{Paged, saved_below}
 use Rattle.model.proofs.Uses.{sound_used, used_out}
 use Rattle.model.proofs.Moves.{holds_cases, sound_cut, parted}
 use Rattle.order.specs.declared.parts.TwoParts.{TwoParts}
 use Rattle.pager.specs.declared.frame.Frame.{Frame}
-use Rattle.pager.specs.Frames.{at, page_in, contents, taken, In, Absent, Apart, flushed}
+use Rattle.pager.specs.Frames.{at, contents, In, Absent, Apart, flushed}
 use Rattle.pager.specs.Framed.{Framed}
 use Rattle.pager.specs.Settings.{Setting, pages_of}
 use Rattle.pager.specs.Shows.{FramesShow, StoreShows}
 use Rattle.pager.specs.Touched.{touched}
-use Rattle.pager.specs.Vacant.{held_by}
 use Rattle.pager.proofs.Holders.{in_order, none_in}
 
 and_false : (b : Bool) → (b && false) ≡ false

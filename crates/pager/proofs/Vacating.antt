@@ -1,5 +1,5 @@
 -- The frame that a page without one gets: a free one, that of the last page of the bottom, or that of a slot.
-use Rattle.std.proofs.Common.{◌≡◌, ℕ, ◌+◌, ◌<◌, ◌≤◌, true, false, cond, ltb, ◌≢◌, List, [], ◌∷◌, ◌++◌, length, get_or, set, sym, refl, ap, ◌∙◌, subst, inl, inr, arith}
+use Rattle.std.proofs.Common.{◌≡◌, ℕ, ◌+◌, ◌<◌, ◌≤◌, true, cond, ◌≢◌, List, [], ◌∷◌, length, get_or, set, sym, refl, ap, ◌∙◌, subst, inl, inr, arith}
 use Rattle.std.proofs.lemmas.Bool.{lt-ltb}
 use Rattle.links.specs.declared.Part.TheVariants.{Unused}
 use Rattle.lists.specs.Weights.{occ}
@@ -15,7 +15,7 @@ use Rattle.order.specs.declared.parts.TwoParts.{TwoParts}
 use Rattle.pager.specs.declared.frame.Frame.{Frame}
 use Rattle.pager.specs.Frames.{at, page_in, contents, taken, In, Absent, Apart}
 use Rattle.pager.specs.Framed.{Framed, SameContents, replacing, renamed, Sat, Left, Slotted}
-use Rattle.pager.specs.Vacant.{held_by, Vacant, Taken}
+use Rattle.pager.specs.Vacant.{Vacant, Taken}
 use Rattle.pager.proofs.Seating.{same_at, same_page}
 use Rattle.pager.proofs.Naming.{at_here, at_other, in_other, framed_idle, framed_replaced}
 use Rattle.pager.proofs.Holders.{seats_left, seats_all, top_long, bottom_long, none_in, bottom_fits}

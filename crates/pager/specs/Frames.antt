@@ -1,4 +1,4 @@
-use Rattle.std.specs.Prelude.{◌≡◌, ℕ, ◌<◌, Bool, true, false, cond, ◌&&◌, ◌≢◌, List, [], ◌∷◌, length, replicate, None, slice_index_or}
+use Rattle.std.specs.Prelude.{◌≡◌, ℕ, ◌<◌, Bool, true, false, cond, List, [], length, replicate, None, slice_index_or}
 use Rattle.links.specs.declared.Part.{Part}
 use Rattle.links.specs.declared.Part.TheVariants.{Unused, Top, Bottom}
 use Rattle.store.specs.Meaning.{Meaning, saved}

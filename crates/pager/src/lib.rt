@@ -1,4 +1,6 @@
 // The pager: pages of any store below in frames, under any top rule.
+#![tactic(auto)]
+
 mod counting;
 mod frame;
 mod frames;

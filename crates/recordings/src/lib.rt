@@ -1,4 +1,6 @@
 // A whole recording: a header line, and then a line for each call.
+#![tactic(auto)]
+
 ghost use Rattle.std.specs.Prelude.{◌≡◌, ◌≤◌, length};
 ghost use Rattle.recordings.specs.Tells.{line_tells, tells_of};
 ghost use Rattle.recordings.specs.Passes.{line_length, first_header, later_lines, calls_in, counted, Room, written};

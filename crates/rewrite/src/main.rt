@@ -1,5 +1,7 @@
 // Reads a recording from standard input and writes its header and its calls as a recording to
 // standard output, or prints the fault that makes it unfit. Standard error says how they compare.
+#![tactic(auto)]
+
 use lines::CallRecord;
 use recordings::RunFault;
 use std::io::{Read, Write};

@@ -1,4 +1,6 @@
 // Top rules: which slot of a full top gives up its page.
+#![tactic(auto)]
+
 ghost use Rattle.std.specs.Prelude.{◌≡◌, ℕ, ◌<◌};
 ghost use Rattle.rules.specs.Oldest.{oldest_slot, oldest_next};
 ghost use Rattle.rules.specs.Lottery.{lottery_slot, lottery_next};

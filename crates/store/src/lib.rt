@@ -1,4 +1,6 @@
 // Page stores: memory in pages of 64 bytes, with one meaning for every make of store.
+#![tactic(auto)]
+
 ghost use Rattle.std.specs.Prelude.{◌≡◌, length};
 ghost use Rattle.store.specs.Meaning.{Meaning};
 ghost use Rattle.store.specs.Refusals.{refusal_number};

@@ -1,4 +1,6 @@
 // Opens page stores over memory that it holds, splices and copies them, and tells what every call did.
+#![tactic(auto)]
+
 ghost use Rattle.std.specs.Prelude.{◌≡◌, length, IfOk};
 ghost use Rattle.store.specs.Splices.{Joined};
 

@@ -5,7 +5,7 @@ use std::io;
 use store::{PageStore, StoreRefusal};
 
 // Why the program stopped: a store refused what it should have accepted, or nothing more could be written.
-#[derive(Drop)]
+#[derive(Debug, Drop)]
 pub(crate) enum Trouble {
     Refused(StoreRefusal),
     Output(io::Error),

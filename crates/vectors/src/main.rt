@@ -2,6 +2,8 @@
 // and how many of the accepted recordings are the same bytes when they are read and written again.
 //
 // Each folder of data/ holds NAME.rec, a recording, and NAME.txt, what the listing program must print for it.
+#![tactic(auto)]
+
 use lines::CallRecord;
 use std::alloc::{AllocError, Global};
 use std::{fs, io};

@@ -6,11 +6,11 @@ use Rattle.fields.proofs.value_of.Goals as goal
 pub loop-b-preserved : goal.loop-b-preserved
 loop-b-preserved c = grind (arith, read_on_more)
 
-pub returns-in-err-tens : goal.returns-in-err-tens
-returns-in-err-tens c = grind (arith, read_on_ge, read_on_more)
+pub returns-in_err-tens : goal.returns-in_err-tens
+returns-in_err-tens c = grind (arith, read_on_ge, read_on_more)
 
-pub returns-in-err-value : goal.returns-in-err-value
-returns-in-err-value c = grind (arith, nat_tests, read_on_ge, read_on_more)
+pub returns-in_err-value : goal.returns-in_err-value
+returns-in_err-value c = grind (arith, nat_tests, read_on_ge, read_on_more)
 
 pub returns : goal.returns
 returns c = grind (arith, nat_tests, read_on_all)

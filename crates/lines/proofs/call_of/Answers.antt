@@ -5,15 +5,15 @@ use Rattle.lines.specs.Calls.{call_from, call_of}
 use Rattle.lines.proofs.Fits.{calls_fit}
 use Rattle.lines.proofs.call_of.Goals as goal
 
-pub returns-in-err-cut : goal.returns-in-err-cut
+pub returns-in_err-cut : goal.returns-in_err-cut
 unfolding call_of
-returns-in-err-cut c =
-    let p = err_from_is_err_and c.from-residual.result c.from-residual.ensures.1 in
-    let e : c.from-residual.result ≡ call_of c.args.line c.args.pages c.args.bytes.now = rw (p.1, p.2) (ap (λ q. with_parts q (call_from c.args.line c.args.pages)) c.in-err-cut.ensures) in
+returns-in_err-cut c =
+    let p = err_from_is_err_and c.from_residual.result c.from_residual.ensures.1 in
+    let e : c.from_residual.result ≡ call_of c.args.line c.args.pages c.args.bytes.now = rw (p.1, p.2) (ap (λ q. with_parts q (call_from c.args.line c.args.pages)) c.in_err-cut.ensures) in
     record { told = e; fit = calls_fit c.args.line c.args.pages c.args.bytes.now _ e }
 
 pub returns : goal.returns
 unfolding call_of
 returns c =
-    let e : c.told-call.result ≡ call_of c.args.line c.args.pages c.args.bytes.now = c.told-call.ensures ∙ ap (λ q. with_parts q (call_from c.args.line c.args.pages)) c.in-ok-cut.ensures in
+    let e : c.told_call.result ≡ call_of c.args.line c.args.pages c.args.bytes.now = c.told_call.ensures ∙ ap (λ q. with_parts q (call_from c.args.line c.args.pages)) c.in_ok-cut.ensures in
     record { told = e; fit = calls_fit c.args.line c.args.pages c.args.bytes.now _ e }

@@ -11,11 +11,11 @@ loop-here-preserved g c =
       λ bs ch le. walk_goes _ _ c.args.at c.loop-here.here c.next-here.result c.loop-here.walked c.in-Some.p _ c.in-Some.is to c.if-p-at.false (c.loop-here.invariant.1 bs ch le),
     )
 
-pub returns-in-default : goal.returns-in-default
-returns-in-default g c = record {
+pub returns-in_default : goal.returns-in_default
+returns-in_default g c = record {
   bound = omega arith;
   reached = λ h. absurd (omega arith);
-  place = λ bs ch le. walk_ends _ _ c.args.at c.loop-here.here c.loop-here.walked _ c.in-default.is (c.loop-here.invariant.1 bs ch le);
+  place = λ bs ch le. walk_ends _ _ c.args.at c.loop-here.here c.loop-here.walked _ c.in_default.is (c.loop-here.invariant.1 bs ch le);
 }
 
 pub returns-then-walked-table : goal.returns-then-walked-table

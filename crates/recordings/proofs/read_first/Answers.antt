@@ -7,10 +7,10 @@ pub returns-then-end-bytes : goal.returns-then-end-bytes
 unfolding first_header
 returns-then-end-bytes c = grind (arith, nat_tests)
 
-pub returns-then-is-empty : goal.returns-then-is-empty
+pub returns-then-is_empty : goal.returns-then-is_empty
 unfolding first_header
-returns-then-is-empty c = grind (arith, nat_tests)
+returns-then-is_empty c = grind (arith, nat_tests)
 
-pub returns-else-is-empty : goal.returns-else-is-empty
+pub returns-else-is_empty : goal.returns-else-is_empty
 unfolding first_header
-returns-else-is-empty c = grind (arith, nat_tests)
+returns-else-is_empty c = grind (arith, nat_tests)

@@ -6,34 +6,34 @@ use Rattle.writing.proofs.Texts.{room_left, put_on}
 use Rattle.writing.proofs.Written.{text_length, measured, fitted_in, filled_in}
 use Rattle.writing.proofs.put_recording.Goals as goal
 
-pub put-header-requires : goal.put-header-requires
-put-header-requires c =
-    let m = measured c.args.header c.args.calls.now _ c.in-ok-length.ensures in
+pub put_header-requires : goal.put_header-requires
+put_header-requires c =
+    let m = measured c.args.header c.args.calls.now _ c.in_ok-length.ensures in
     record { fit = m.fits.header; room = omega (arith, m.size, text_length c.args.header c.args.calls.now m.fits.header (omega arith)) }
 
-pub slice-bounds-put-calls-count : goal.slice-bounds-put-calls-count
-slice-bounds-put-calls-count c =
-    let m = measured c.args.header c.args.calls.now _ c.in-ok-length.ensures in
-    omega (arith, m.size, text_length c.args.header c.args.calls.now m.fits.header (omega arith), c.put-header.auto.bytes)
+pub slice_bounds-put_calls-count : goal.slice_bounds-put_calls-count
+slice_bounds-put_calls-count c =
+    let m = measured c.args.header c.args.calls.now _ c.in_ok-length.ensures in
+    omega (arith, m.size, text_length c.args.header c.args.calls.now m.fits.header (omega arith), c.put_header.auto.bytes)
 
-pub slice-bounds-put-calls-start : goal.slice-bounds-put-calls-start
-slice-bounds-put-calls-start c =
-    let m = measured c.args.header c.args.calls.now _ c.in-ok-length.ensures in
-    omega (arith, m.size, text_length c.args.header c.args.calls.now m.fits.header (omega arith), c.put-header.auto.bytes)
+pub slice_bounds-put_calls-start : goal.slice_bounds-put_calls-start
+slice_bounds-put_calls-start c =
+    let m = measured c.args.header c.args.calls.now _ c.in_ok-length.ensures in
+    omega (arith, m.size, text_length c.args.header c.args.calls.now m.fits.header (omega arith), c.put_header.auto.bytes)
 
-pub put-calls-requires : goal.put-calls-requires
-put-calls-requires c =
-    let m = measured c.args.header c.args.calls.now _ c.in-ok-length.ensures in
+pub put_calls-requires : goal.put_calls-requires
+put_calls-requires c =
+    let m = measured c.args.header c.args.calls.now _ c.in_ok-length.ensures in
     record {
       narrow = calls_narrow c.args.header.pages c.args.calls.now m.fits.header.pages.1 m.fits.calls;
-      room = room_left c.put-header.new.bytes 21 _ (omega (arith, m.size, text_length c.args.header c.args.calls.now m.fits.header (omega arith), c.put-header.auto.bytes));
+      room = room_left c.put_header.new.bytes 21 _ (omega (arith, m.size, text_length c.args.header c.args.calls.now m.fits.header (omega arith), c.put_header.auto.bytes));
     }
 
 pub returns : goal.returns
 returns c =
-    let m = measured c.args.header c.args.calls.now _ c.in-ok-length.ensures in
+    let m = measured c.args.header c.args.calls.now _ c.in_ok-length.ensures in
     record {
       answer = fitted_in c.args.header c.args.calls.now _ _ m (omega arith);
-      buffer = put_on (header_text c.args.header) (calls_text c.args.calls.now) c.args.buffer.now c.put-header.new.bytes _ 21 (sym (header_length c.args.header (narrows c.args.header m.fits.header (omega arith)))) c.put-header.ensures c.put-calls.ensures
+      buffer = put_on (header_text c.args.header) (calls_text c.args.calls.now) c.args.buffer.now c.put_header.new.bytes _ 21 (sym (header_length c.args.header (narrows c.args.header m.fits.header (omega arith)))) c.put_header.ensures c.put_calls.ensures
           ∙ filled_in c.args.header c.args.calls.now _ c.args.buffer.now m (omega arith);
     }

@@ -1,4 +1,4 @@
-use Rattle.std.proofs.Common.{◌≡◌, ◌+◌, cond, ltb, get_or, sym, refl, ap, ◌∙◌, arith}
+use Rattle.std.proofs.Common.{◌+◌, cond, ltb, get_or, sym, refl, ap, ◌∙◌, arith}
 use Rattle.lists.specs.Weights.{total}
 use Rattle.model.specs.Rows.{wrapped}
 use Rattle.census.proofs.Sums.{none_below, tally_more}

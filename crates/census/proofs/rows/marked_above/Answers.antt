@@ -7,7 +7,7 @@ use Rattle.census.proofs.Sinking.{marked_more}
 use Rattle.census.proofs.rows.marked_above.Goals as goal
 
 pub loop-page-preserved : goal.loop-page-preserved
-loop-page-preserved c = marked_more c.args.table.now c.args.l c.loop-page.page c.loop-page.marked c.over-here-marked.result c.loop-page-test.true c.loop-page.invariant c.over-here-marked.ensures
+loop-page-preserved c = marked_more c.args.table.now c.args.l c.loop-page.page c.loop-page.marked c.over_here-marked.result c.loop-page-test.true c.loop-page.invariant c.over_here-marked.ensures
 
 pub returns : goal.returns
 returns c =

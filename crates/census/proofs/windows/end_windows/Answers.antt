@@ -8,9 +8,9 @@ use Rattle.census.proofs.windows.end_windows.Goals as goal
 
 pub loop-page-preserved : goal.loop-page-preserved
 loop-page-preserved c = (
-  same_more _ _ _ c.loop-page.invariant.0 c.set-mark.ensures.same,
-  closed_more c.args.table.now c.loop-page.table c.set-mark.new.table c.loop-page.page c.loop-page.invariant.1 c.loop-page.invariant.0 c.loop-page-test.true c.set-mark.ensures.mark,
-  ended_more c.args.table.now c.loop-page.table c.set-mark.new.table c.loop-page.page c.loop-page.invariant.1 c.loop-page.invariant.0 c.loop-page-test.true c.set-mark.ensures.mark c.loop-page.ended c.open-here-ended.result c.loop-page.invariant.2 c.open-here-ended.ensures,
+  same_more _ _ _ c.loop-page.invariant.0 c.set_mark.ensures.same,
+  closed_more c.args.table.now c.loop-page.table c.set_mark.new.table c.loop-page.page c.loop-page.invariant.1 c.loop-page.invariant.0 c.loop-page-test.true c.set_mark.ensures.mark,
+  ended_more c.args.table.now c.loop-page.table c.set_mark.new.table c.loop-page.page c.loop-page.invariant.1 c.loop-page.invariant.0 c.loop-page-test.true c.set_mark.ensures.mark c.loop-page.ended c.open_here-ended.result c.loop-page.invariant.2 c.open_here-ended.ensures,
 )
 
 pub returns : goal.returns

@@ -1,4 +1,4 @@
-use Rattle.std.proofs.Common.{refl, arith}
+use Rattle.std.proofs.Common.{arith}
 use Rattle.counting.proofs.Showing.{show_start, show_other, show_call, show_end}
 use Rattle.counting.proofs.passes.show_lines.Goals as goal
 use Rattle.counting.proofs.passes.show_lines.Goals.{then-b-eq10, else-b-eq10}
@@ -8,7 +8,7 @@ loop-i-init g c = (omega arith, omega arith, show_start _ _ _ _ _ _ _)
 
 pub loop-i-preserved : goal.loop-i-preserved
 loop-i-preserved g c = elim c.if-b-eq10.branch [
-  | then-b-eq10 w ↦ (omega arith, omega arith, simp (w.census-is, w.table-is, w.counts-is) (show_call _ _ _ _ _ _ _ _ _ _ _ _ _ c.loop-i.invariant.2 c.loop-i-test.true _ _ _ _ _ w.if-b-eq10.true c.requires.sound c.requires.pages c.requires.room w.show-line.auto.table w.show-line.auto.counts w.show-line.ensures.same w.show-line.ensures.rest w.show-line.ensures.step w.line-is w.start-is))
+  | then-b-eq10 w ↦ (omega arith, omega arith, simp (w.census-is, w.table-is, w.counts-is) (show_call _ _ _ _ _ _ _ _ _ _ _ _ _ c.loop-i.invariant.2 c.loop-i-test.true _ _ _ _ _ w.if-b-eq10.true c.requires.sound c.requires.pages c.requires.room w.show_line.auto.table w.show_line.auto.counts w.show_line.ensures.same w.show_line.ensures.rest w.show_line.ensures.step w.line-is w.start-is))
   | else-b-eq10 w ↦ (omega arith, omega arith, simp (w.census-is, w.table-is, w.counts-is) (show_other _ _ _ _ _ _ _ _ _ _ _ _ _ c.loop-i.invariant.2 c.loop-i-test.true _ _ w.if-b-eq10.false w.line-is w.start-is))
 ]
 

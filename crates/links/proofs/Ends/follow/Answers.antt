@@ -5,10 +5,10 @@ use Rattle.links.proofs.Ends.follow.Goals as goal
 
 pub returns-then-q-table : goal.returns-then-q-table
 returns-then-q-table g c = record {
-  after = link_wrote g.R.Linked.after c.args.table.now c.args.at c.args.to c.in-Some.q c.in-Some.is c.set-next.new.self c.set-next.ensures.after;
-  before = map_kept g.R.Linked.before c.args.table.now c.in-Some.q c.set-next.new.self _ c.if-q-table.true c.set-next.ensures.before;
-  within = map_kept g.R.Linked.within c.args.table.now c.in-Some.q c.set-next.new.self _ c.if-q-table.true c.set-next.ensures.within;
-  rest = map_kept g.R.Linked.rest c.args.table.now c.in-Some.q c.set-next.new.self _ c.if-q-table.true c.set-next.ensures.rest;
+  after = link_wrote g.R.Linked.after c.args.table.now c.args.at c.args.to c.in-Some.q c.in-Some.is c.set_next.new.self c.set_next.ensures.after;
+  before = map_kept g.R.Linked.before c.args.table.now c.in-Some.q c.set_next.new.self _ c.if-q-table.true c.set_next.ensures.before;
+  within = map_kept g.R.Linked.within c.args.table.now c.in-Some.q c.set_next.new.self _ c.if-q-table.true c.set_next.ensures.within;
+  rest = map_kept g.R.Linked.rest c.args.table.now c.in-Some.q c.set_next.new.self _ c.if-q-table.true c.set_next.ensures.rest;
   first = end_stays c.args.self.now.first c.args.at c.args.to c.in-Some.q c.in-Some.is;
   last = refl;
 }

@@ -5,10 +5,10 @@ use Rattle.links.proofs.Ends.precede.Goals as goal
 
 pub returns-then-q-table : goal.returns-then-q-table
 returns-then-q-table g c = record {
-  before = link_wrote g.R.Linked.before c.args.table.now c.args.at c.args.to c.in-Some.q c.in-Some.is c.set-prev.new.self c.set-prev.ensures.before;
-  after = map_kept g.R.Linked.after c.args.table.now c.in-Some.q c.set-prev.new.self _ c.if-q-table.true c.set-prev.ensures.after;
-  within = map_kept g.R.Linked.within c.args.table.now c.in-Some.q c.set-prev.new.self _ c.if-q-table.true c.set-prev.ensures.within;
-  rest = map_kept g.R.Linked.rest c.args.table.now c.in-Some.q c.set-prev.new.self _ c.if-q-table.true c.set-prev.ensures.rest;
+  before = link_wrote g.R.Linked.before c.args.table.now c.args.at c.args.to c.in-Some.q c.in-Some.is c.set_prev.new.self c.set_prev.ensures.before;
+  after = map_kept g.R.Linked.after c.args.table.now c.in-Some.q c.set_prev.new.self _ c.if-q-table.true c.set_prev.ensures.after;
+  within = map_kept g.R.Linked.within c.args.table.now c.in-Some.q c.set_prev.new.self _ c.if-q-table.true c.set_prev.ensures.within;
+  rest = map_kept g.R.Linked.rest c.args.table.now c.in-Some.q c.set_prev.new.self _ c.if-q-table.true c.set_prev.ensures.rest;
   last = end_stays c.args.self.now.last c.args.at c.args.to c.in-Some.q c.in-Some.is;
   first = refl;
 }

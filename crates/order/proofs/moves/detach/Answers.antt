@@ -22,10 +22,10 @@ returns-in-Bottom g c = record {
   rest = c.unlink.ensures.rest;
 }
 
-pub returns-in-default : goal.returns-in-default
-returns-in-default g c = record {
+pub returns-in_default : goal.returns-in_default
+returns-in_default g c = record {
   list = λ bs h says. nothing_out (views_of g.T.Linked.after g.T.Linked.before g.T.Linked.within c.args.table.now) c.args.bottom.now c.args.page bs
-      (says.away (λ e. c.in-default.not-Bottom (c.part.ensures ∙ (sym (get_or-map g.T.Linked.within c.args.table.now c.args.page _ Unused c.if-page-table.false) ∙ e)))) h;
+      (says.away (λ e. c.in_default.not-Bottom (c.part.ensures ∙ (sym (get_or-map g.T.Linked.within c.args.table.now c.args.page _ Unused c.if-page-table.false) ∙ e)))) h;
   part = refl;
   rest = refl;
 }

@@ -23,7 +23,7 @@ loop-page-preserved g c =
     let b = g.T.PageStore.meaning c.args.to.now in
     let same : length a.bytes ≡ length b.bytes = omega arith in
     let lt : c.loop-page.page < length a.bytes = omega arith in
-    let told = c.in-ok-carry.ensures in
+    let told = c.in_ok-carry.ensures in
     (told.from, told.to, halfway_more a b _ _ _ c.loop-page.invariant.2 same _ _ lt told.read told.written)
 
 pub returns : goal.returns

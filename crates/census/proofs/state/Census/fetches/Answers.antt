@@ -1,4 +1,4 @@
-use Rattle.std.proofs.Common.{◌+◌, ◌∙◌, arith}
+use Rattle.std.proofs.Common.{◌∙◌, arith}
 use Rattle.census.proofs.Sums.{tally_above}
 use Rattle.census.proofs.state.Census.fetches.Goals as goal
 

@@ -1,4 +1,4 @@
-use Rattle.std.proofs.Common.{◌≡◌, ◌<◌, refl, ap, ◌∙◌}
+use Rattle.std.proofs.Common.{◌<◌, refl, ap, ◌∙◌}
 use Rattle.model.specs.Order.{rule_of}
 use Rattle.order.proofs.Standing.{asked_stands, chosen_page}
 use Rattle.order.proofs.parts.TwoParts.choose_slot.Goals as goal

@@ -1,4 +1,4 @@
-use Rattle.std.proofs.Common.{◌≡◌, sym, arith}
+use Rattle.std.proofs.Common.{arith}
 use Rattle.order.proofs.Standing.{slot_found, slot_none}
 use Rattle.order.proofs.parts.TwoParts.slot_of.Goals as goal
 

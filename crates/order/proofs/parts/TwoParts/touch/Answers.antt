@@ -22,7 +22,7 @@ returns-then-self g c =
     let seen = views_of g.T.Linked.after g.T.Linked.before g.T.Linked.within in
     let read : c.part.result ≡ get_or (map g.T.Linked.within c.args.table.now) c.args.page Unused = c.part.ensures ∙ sym (get_or-map g.T.Linked.within c.args.table.now c.args.page _ Unused c.if-page-table.false) in
     record {
-      step = λ o s low. let away = not_in_top c.args.self.now (seen c.args.table.now) o c.args.page s.arranged low c.part.result read c.in-default.not-Top in
+      step = λ o s low. let away = not_in_top c.args.self.now (seen c.args.table.now) o c.args.page s.arranged low c.part.result read c.in_default.not-Top in
           used_room g.R.TopRule.told c.args.self.now _ (seen c.args.table.now) _ o c.args.page s.arranged (rule_of g.R.TopRule.slot g.R.TopRule.next) away c.if-self.true (c.enter.ensures.step o s low away);
       past = λ h. absurd (omega arith);
       rest = c.enter.ensures.rest;
@@ -34,7 +34,7 @@ returns-else-self g c =
     let seen = views_of g.T.Linked.after g.T.Linked.before g.T.Linked.within in
     let read : c.part.result ≡ get_or (map g.T.Linked.within c.args.table.now) c.args.page Unused = c.part.ensures ∙ sym (get_or-map g.T.Linked.within c.args.table.now c.args.page _ Unused c.if-page-table.false) in
     record {
-      step = λ o s low. let away = not_in_top c.args.self.now (seen c.args.table.now) o c.args.page s.arranged low c.part.result read c.in-default.not-Top in
+      step = λ o s low. let away = not_in_top c.args.self.now (seen c.args.table.now) o c.args.page s.arranged low c.part.result read c.in_default.not-Top in
           used_full g.R.TopRule.told c.args.self.now _ (seen c.args.table.now) _ o c.args.page s.arranged (rule_of g.R.TopRule.slot g.R.TopRule.next) away c.if-self.false (c.exchange.ensures.step o s low away);
       past = λ h. absurd (omega arith);
       rest = c.exchange.ensures.rest;

@@ -4,9 +4,9 @@ use Rattle.pager.specs.declared.frame.Frame.{Frame}
 use Rattle.pager.proofs.Naming.{seated_lent}
 use Rattle.pager.proofs.frames.FrameTable.save.Goals as goal
 
-pub invariant-of-self : goal.invariant-of-self
-invariant-of-self g c =
+pub invariant_of-self : goal.invariant_of-self
+invariant_of-self g c =
     let v = c.args.self.now.frames in
     let low : c.args.i < length (vec_items v) = omega (arith, c.requires.within, v.ok.0) in
-    let is = c.save-to.ensures.frame in
-    (∥∥₁_map c.args.self.now.seated (seated_lent c.args.self.now.parts (vec_items v) c.args.i c.index-mut.result.now c.save-to.new.self low c.index-mut.ensures.value (ap (λ (f : Frame). f.next) is) (ap (λ (f : Frame). f.prev) is) (ap (λ (f : Frame). f.part) is) (ap (λ (f : Frame). f.page) is)), tt)
+    let is = c.save_to.ensures.frame in
+    record { seated = ∥∥₁_map c.args.self.now.seated (seated_lent c.args.self.now.parts (vec_items v) c.args.i c.index_mut.result.now c.save_to.new.self low c.index_mut.ensures.value (ap (λ (f : Frame). f.next) is) (ap (λ (f : Frame). f.prev) is) (ap (λ (f : Frame). f.part) is) (ap (λ (f : Frame). f.page) is)) }

@@ -1,7 +1,6 @@
-use Rattle.std.proofs.Common.{◌≡◌, ℕ, not, List, sym, refl, ap, ◌∙◌, subst}
+use Rattle.std.proofs.Common.{sym, refl, subst}
 use Rattle.model.specs.Order.{rule_of}
-use Rattle.pager.specs.declared.frame.Frame.{Frame}
-use Rattle.pager.specs.Frames.{at, page_in, In, Absent}
+use Rattle.pager.specs.Frames.{at, In, Absent}
 use Rattle.pager.specs.Shows.{frames_of, Shows}
 use Rattle.pager.specs.Touched.{touched}
 use Rattle.pager.proofs.Holders.{in_holds, absent_holds}
@@ -20,7 +19,7 @@ returns-in-Some g c =
     record {
       opened = subst g.S.PageStore.opened (sym c.touch.ensures.below) c.requires.ready.store;
       shows = λ s w sh. subst (λ q. Shows g.R.TopRule.told g.S.PageStore.meaning s c.touch.new.self (touched rule s.slots s.bottom q (at (frames_of c.touch.new.self) c.in-Some.frame).bytes w)) was.here (c.touch.ensures.shows s w sh);
-      found = λ s w sh. in_holds g.R.TopRule.told p.table.parts (frames_of p) w.pager.order sh.frames.order-is c.args.page c.in-Some.frame was;
+      found = λ s w sh. in_holds g.R.TopRule.told p.table.parts (frames_of p) w.pager.order sh.frames.order_is c.args.page c.in-Some.frame was;
       here = subst (λ q. In (frames_of c.touch.new.self) q c.in-Some.frame) was.here c.touch.ensures.here;
       rest = c.touch.ensures.rest;
     }
@@ -35,7 +34,7 @@ returns-in-None g c =
     record {
       opened = c.admit-frame.ensures.opened;
       shows = c.admit-frame.ensures.shows;
-      found = λ s w sh. absent_holds g.R.TopRule.told p.table.parts (frames_of p) w.pager.order sh.frames.order-is c.args.page none;
+      found = λ s w sh. absent_holds g.R.TopRule.told p.table.parts (frames_of p) w.pager.order sh.frames.order_is c.args.page none;
       here = c.admit-frame.ensures.here;
       rest = c.admit-frame.ensures.rest;
     }

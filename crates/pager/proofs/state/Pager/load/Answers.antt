@@ -1,7 +1,6 @@
-use Rattle.std.proofs.Common.{◌≡◌, ℕ, ◌<◌, true, false, not, length, vec_items, sym, refl, ap, ◌∙◌, subst, arith}
+use Rattle.std.proofs.Common.{◌<◌, not, vec_items, refl, ap, ◌∙◌, arith}
 use Rattle.model.specs.Order.{rule_of}
-use Rattle.pager.specs.declared.frame.Frame.{Frame}
-use Rattle.pager.specs.Frames.{at, page_in, filled, In}
+use Rattle.pager.specs.Frames.{at}
 use Rattle.pager.specs.Settings.{pages_of}
 use Rattle.pager.specs.Shows.{frames_of}
 use Rattle.pager.proofs.Seating.{apart_in}

@@ -1,8 +1,5 @@
-use Rattle.std.proofs.Common.{◌≡◌, ℕ, ◌<◌, length, refl, ap, ◌∙◌, subst}
-use Rattle.links.specs.declared.Part.TheVariants.{Unused}
+use Rattle.std.proofs.Common.{refl}
 use Rattle.model.specs.Order.{rule_of}
-use Rattle.pager.specs.declared.frame.Frame.{Frame}
-use Rattle.pager.specs.Frames.{at}
 use Rattle.pager.specs.Shows.{frames_of}
 use Rattle.pager.proofs.Touching.{rule_below}
 use Rattle.pager.proofs.Admitting.{room_free, room_evicted}

@@ -1,11 +1,11 @@
-use Rattle.std.proofs.Common.{◌≡◌, ℕ, ◌+◌, sym, refl, ◌∙◌, rules}
+use Rattle.std.proofs.Common.{◌+◌, refl, rules}
 use Rattle.model.proofs.Bytes.{kept_fresh}
 use Rattle.pager.specs.Settings.{Setting, first_bytes, untouched, pages_of}
 use Rattle.pager.proofs.Fresh.{fresh_seated, fresh_frames, fresh_shows}
 use Rattle.pager.proofs.state.Pager.open.Goals as goal
 
-pub invariant-of-result : goal.invariant-of-result
-invariant-of-result g c = (∣ fresh_seated g.R.TopRule.told (g.R.TopRule.told c.args.rule) c.make.result (c.args.slots + c.args.bottom) _ c.in-Ok.ensures c.make.ensures.stands ∣₁, tt)
+pub invariant_of-result : goal.invariant_of-result
+invariant_of-result g c = record { seated = ∣ fresh_seated g.R.TopRule.told (g.R.TopRule.told c.args.rule) c.make.result (c.args.slots + c.args.bottom) _ c.in-Ok.ensures c.make.ensures.stands ∣₁ }
 
 pub returns : goal.returns
 returns g c =

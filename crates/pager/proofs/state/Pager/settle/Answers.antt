@@ -1,7 +1,4 @@
-use Rattle.std.proofs.Common.{◌≡◌, ℕ, sym, refl, ap, ◌∙◌, subst, arith}
-use Rattle.pager.specs.Settings.{pages_of}
-use Rattle.pager.specs.Shows.{Shows}
-use Rattle.pager.specs.Partly.{partly}
+use Rattle.std.proofs.Common.{◌≡◌, refl, ◌∙◌, arith}
 use Rattle.pager.proofs.Settling.{frames_low, partly_none, partly_end, settle_ready, settle_same, settle_below}
 use Rattle.pager.proofs.state.Pager.settle.Goals as goal
 
@@ -12,20 +9,20 @@ loop-page-init g c = record {
   rest = record { pages = refl; fetches = refl; saves = refl };
 }
 
-pub settle-page-requires : goal.settle-page-requires
-settle-page-requires g c = record {
+pub settle_page-requires : goal.settle_page-requires
+settle_page-requires g c = record {
   opened = c.loop-page.invariant.store;
   there = frames_low g.R.TopRule.told g.S.PageStore.meaning c.requires.setting c.loop-page.self _ (c.loop-page.invariant.shows c.requires.setting c.requires.model c.requires.shows);
 }
 
 pub loop-page-preserved : goal.loop-page-preserved
 loop-page-preserved g c = record {
-  store = c.settle-page.ensures.opened;
-  shows = λ s w sh. c.settle-page.ensures.step s w (c.loop-page.invariant.shows s w sh);
+  store = c.settle_page.ensures.opened;
+  shows = λ s w sh. c.settle_page.ensures.step s w (c.loop-page.invariant.shows s w sh);
   rest = record {
-    pages = c.settle-page.ensures.rest.pages ∙ c.loop-page.invariant.rest.pages;
-    fetches = c.settle-page.ensures.rest.fetches ∙ c.loop-page.invariant.rest.fetches;
-    saves = c.settle-page.ensures.rest.saves ∙ c.loop-page.invariant.rest.saves;
+    pages = c.settle_page.ensures.rest.pages ∙ c.loop-page.invariant.rest.pages;
+    fetches = c.settle_page.ensures.rest.fetches ∙ c.loop-page.invariant.rest.fetches;
+    saves = c.settle_page.ensures.rest.saves ∙ c.loop-page.invariant.rest.saves;
   };
 }
 

@@ -1,4 +1,4 @@
-use Rattle.std.proofs.Common.{◌≡◌, ℕ, refl, subst, arith}
+use Rattle.std.proofs.Common.{refl, subst, arith}
 use Rattle.pager.specs.Frames.{In, Absent}
 use Rattle.pager.specs.Shows.{frames_of}
 use Rattle.pager.proofs.Seating.{apart_in}
@@ -24,9 +24,9 @@ returns-in-Some g c =
       rest = record { pages = refl; fetches = refl; saves = refl };
     }
 
-pub returns-in-default : goal.returns-in-default
-returns-in-default g c = record {
+pub returns-in_default : goal.returns-in_default
+returns-in_default g c = record {
   opened = c.requires.opened;
-  step = λ s w sh. settle_absent c.args.page w g.R.TopRule.told g.S.PageStore.meaning s c.args.self.now sh (subst (λ t. Absent t c.args.page) c.deref.ensures.value c.in-default.ensures);
+  step = λ s w sh. settle_absent c.args.page w g.R.TopRule.told g.S.PageStore.meaning s c.args.self.now sh (subst (λ t. Absent t c.args.page) c.deref.ensures.value c.in_default.ensures);
   rest = record { pages = refl; fetches = refl; saves = refl };
 }

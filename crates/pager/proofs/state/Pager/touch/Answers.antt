@@ -1,4 +1,4 @@
-use Rattle.std.proofs.Common.{◌≡◌, ℕ, ◌<◌, length, vec_items, refl, ap, ◌∙◌, arith}
+use Rattle.std.proofs.Common.{vec_items, refl, ap, ◌∙◌, arith}
 use Rattle.std.proofs.lemmas.List.{get_or_read}
 use Rattle.model.specs.Order.{rule_of}
 use Rattle.pager.specs.declared.frame.Frame.{Frame}
@@ -25,8 +25,8 @@ returns g c =
     let apart' = apart_in c.seat.new.self.parts (vec_items c.seat.new.self.frames) c.seat.new.self.seated in
     record {
       shows = λ s w sh. touch_shows g.R.TopRule.told g.S.PageStore.meaning rule s p _ w c.args.i sh (rule_below g.R.TopRule.told rule s p.table.parts t w sh.frames (λ state k pos. g.met.R.TopRule.below state k pos)) c.requires.held apart apart' c.seat.ensures.same c.seat.ensures.slots
-          (c.seat.ensures.sat w.pager.order sh.frames.order-is) refl refl (c.note-found.ensures ∙ ap (λ (f : Frame). found_in f.part p.counts) read);
-      here = (c.seat.ensures.sat c.requires.ready.model.pager.order c.requires.ready.shows.frames.order-is).here;
+          (c.seat.ensures.sat w.pager.order sh.frames.order_is) refl refl (c.note_found.ensures ∙ ap (λ (f : Frame). found_in f.part p.counts) read);
+      here = (c.seat.ensures.sat c.requires.ready.model.pager.order c.requires.ready.shows.frames.order_is).here;
       below = refl;
       rest = record { pages = refl; fetches = refl; saves = refl };
     }
