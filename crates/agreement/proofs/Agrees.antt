@@ -1,6 +1,6 @@
 -- The pager of bottom l and the census, call by call: what holds between them before a call holds after it.
 use Rattle.std.proofs.Common.{◌≡◌, ℕ, ◌+◌, ◌<◌, ◌≤◌, min, Bool, true, cond, not, ◌&&◌, eqb, List, [], ◌∷◌, length, take, Some, None, Option, sym, refl, ap, inl, inr, zero-le, arith}
-use Rattle.std.specs.List.{AllByRecursion as All}
+use Rattle.std.specs.List.{AllByRecursion}
 use Rattle.std.proofs.lemmas.List.{length-take, length-drop}
 use Rattle.std.proofs.lemmas.Bool.{cases_lt, le-ltb}
 use Rattle.lists.specs.Weights.{weigh, one, occ, has, total}
@@ -135,7 +135,7 @@ module _ (r : Rule) (n k l : ℕ) (slots : (state : ℕ) → r.slot state k < k)
     parts : (q : ℕ) → is_open (b.marks q) ≡ over l (b.marks q) + one (s.dirty q)
     parts q = rw (a.dirty q) (open_parts l (b.marks q))
 
-  pub agrees_run : (s : Pager) (b : Ledger) → Agrees n k l s b → (calls : List Call) → All (Fits n) calls → Agrees n k l (pager_run r n k l s calls) (shown_all r n k b calls)
+  pub agrees_run : (s : Pager) (b : Ledger) → Agrees n k l s b → (calls : List Call) → AllByRecursion (Fits n) calls → Agrees n k l (pager_run r n k l s calls) (shown_all r n k b calls)
   agrees_run s b a [] h = a
   agrees_run s b a (Use Read p ∷ calls) h = agrees_run (pager_read r k l p s) (shown_read r k p b) (step_read p h.0 s b a) calls h.1
   agrees_run s b a (Use Write p ∷ calls) h = agrees_run (pager_write r k l p s) (shown_write r k p b) (step_write p h.0 s b a) calls h.1

@@ -1,6 +1,6 @@
 -- No row counts more faults or saves than there were calls, and none more than the row before it.
 use Rattle.std.proofs.Common.{◌≡◌, ℕ, ◌+◌, ◌<◌, ◌≤◌, cond, eqb, ltb, List, [], ◌∷◌, length, Some, None, Option, sym, refl, inl, inr, zero-le, arith}
-use Rattle.std.specs.List.{AllByRecursion as All}
+use Rattle.std.specs.List.{AllByRecursion}
 use Rattle.std.proofs.lemmas.Bool.{lt-ltb, eq-eqb}
 use Rattle.lists.specs.Weights.{one, total}
 use Rattle.lists.specs.Places.{place}
@@ -82,7 +82,7 @@ module _ (r : Rule) (n k : ℕ) where
     windows = omega (arith, f.windows, total_zero (λ q. 0) n (λ q lt. refl));
   }
 
-  pub few_run : (b : Ledger) → Few n b → (calls : List Call) → All (Fits n) calls → Few n (shown_all r n k b calls)
+  pub few_run : (b : Ledger) → Few n b → (calls : List Call) → AllByRecursion (Fits n) calls → Few n (shown_all r n k b calls)
   few_run b f [] h = f
   few_run b f (Use Read p ∷ calls) h = few_run (shown_read r k p b) (few_read p b f) calls h.1
   few_run b f (Use Write p ∷ calls) h = few_run (shown_write r k p b) (few_write p h.0 b f) calls h.1

@@ -1,6 +1,6 @@
 -- The law over runs, from what each call keeps.
 use Rattle.std.proofs.Common.{◌≡◌, ℕ, ◌+◌, ◌<◌, ◌≤◌, ◌&&◌, eqb, ltb, List, [], ◌∷◌, length, sym, refl, ap, ◌∙◌, inl, inr, zero-le, arith}
-use Rattle.std.specs.List.{AllByRecursion as All}
+use Rattle.std.specs.List.{AllByRecursion}
 use Rattle.std.proofs.lemmas.Bool.{cases_Bool, and_parts, ltb-true}
 use Rattle.lists.proofs.Weights.{ltb_cases}
 use Rattle.model.specs.Order.{Rule}
@@ -23,7 +23,7 @@ pager_of r n k l w (reads p ∷ ds) = pager_of r n k l (paged_read r k l p w) ds
 pager_of r n k l w (writes p bytes ∷ ds) = pager_of r n k l (paged_write r k l p bytes w) ds
 pager_of r n k l w (settles ∷ ds) = pager_of r n k l (paged_settle n w) ds
 
-pub accepted_within : (n : ℕ) (ds : List Deed) → All (Within n) (accepted n ds)
+pub accepted_within : (n : ℕ) (ds : List Deed) → AllByRecursion (Within n) (accepted n ds)
 accepted_within n [] = tt
 accepted_within n (reads p ∷ ds) = elim (ltb_cases p n) [
   | inl y ↦ rw y.1 (y.0, accepted_within n ds)
@@ -42,7 +42,7 @@ accepted_fewer n (d ∷ ds) = elim (cases_Bool (accepts n d)) [
   | inr m ↦ rw m (omega (arith, accepted_fewer n ds))
 ]
 
-pub shown_fits : (n : ℕ) (ds : List Deed) → All (Within n) ds → All (Fits n) (shown_of ds)
+pub shown_fits : (n : ℕ) (ds : List Deed) → AllByRecursion (Within n) ds → AllByRecursion (Fits n) (shown_of ds)
 shown_fits n [] h = tt
 shown_fits n (reads p ∷ ds) h = (h.0, shown_fits n ds h.1)
 shown_fits n (writes p bytes ∷ ds) h = (h.0, shown_fits n ds h.1)
@@ -77,5 +77,5 @@ agreement r n k l told first pos slots deeds short =
     (omega (arith, lru_few (l + 1) [] [] calls, accepted_fewer n deeds))
     (rw (pager_of r n k l (paged_fresh told first) (accepted n deeds)) (under_lru r n k l slots told calls))
     (rw (pager_of r n k l (paged_fresh told first) (accepted n deeds)) (λ i. level_lru r n k l slots i told calls)) where
-      fits : All (Fits n) (shown_of (accepted n deeds))
+      fits : AllByRecursion (Fits n) (shown_of (accepted n deeds))
       fits = shown_fits n (accepted n deeds) (accepted_within n deeds)

@@ -1,6 +1,6 @@
 -- The bytes of a pager, deed by deed, against the byte book.
 use Rattle.std.proofs.Common.{◌≡◌, ℕ, ◌+◌, ◌<◌, true, false, cond, not, ◌≢◌, List, [], ◌∷◌, sym, refl, inl, inr, arith}
-use Rattle.std.specs.List.{AllByRecursion as All}
+use Rattle.std.specs.List.{AllByRecursion}
 use Rattle.std.proofs.lemmas.Bool.{cases_Bool, both_ways, eq-eqb, ltb-false, and_parts, not-true}
 use Rattle.lists.specs.Weights.{occ, has}
 use Rattle.lists.proofs.Weights.{eqb_cases}
@@ -100,7 +100,7 @@ Within n (reads p) = p < n
 Within n (writes p bytes) = p < n
 Within n settles = Unit {0}
 
-pub kept_run : (r : Rule) (n k l : ℕ) → ((state : ℕ) → r.slot state k < k) → (w : Paged) (book : ℕ → List ℕ) → Kept n k w book → (ds : List Deed) → All (Within n) ds → Kept n k (paged_run r n k l w ds) (book_run book ds)
+pub kept_run : (r : Rule) (n k l : ℕ) → ((state : ℕ) → r.slot state k < k) → (w : Paged) (book : ℕ → List ℕ) → Kept n k w book → (ds : List Deed) → AllByRecursion (Within n) ds → Kept n k (paged_run r n k l w ds) (book_run book ds)
 kept_run r n k l slots w book c [] h = c
 kept_run r n k l slots w book c (reads p ∷ ds) h = kept_run r n k l slots (paged_read r k l p w) book (kept_read r n k l p slots h.0 w book c) ds h.1
 kept_run r n k l slots w book c (writes p bytes ∷ ds) h = kept_run r n k l slots (paged_write r k l p bytes w) (book_step book (writes p bytes)) (kept_write r n k l p slots h.0 w book c bytes) ds h.1

@@ -1,6 +1,6 @@
 -- Bytes are accepted just if they are lines that tell a header and calls.
 use Rattle.std.proofs.Common.{◌≡◌, ℕ, ◌+◌, ◌<◌, not, eqb, List, [], ◌∷◌, ◌++◌, length, get_or, take, drop, Ok, Err, Result, sym, refl, ap, ◌∙◌, subst, inl, inr, append_assoc, append-nil, arith}
-use Rattle.std.specs.List.{AllByRecursion as All}
+use Rattle.std.specs.List.{AllByRecursion}
 use Rattle.std.proofs.lemmas.Bool.{cases_Bool, cond-true, cond-false, eqb-true, eqb-false, ne_eqb}
 use Rattle.std.proofs.lemmas.Bool.Decides.{nat_tests}
 use Rattle.std.proofs.ByRecursion.{All-push, All-from_get_or}
@@ -22,7 +22,7 @@ abbrev NotTen : ℕ → Type 0
 NotTen b = b ≡ 10 → ⊥
 
 -- What reads as calls is lines that tell them.
-pub lines_from : (pages n : ℕ) (sofar : List CallRecord) (cur bs : List ℕ) (cs : List CallRecord) → All NotTen cur → calls_from pages n sofar cur bs ≡ Ok cs → (ts : List CallRecord) × (cs ≡ sofar ++ ts) × Lines pages n (cur ++ bs) ts
+pub lines_from : (pages n : ℕ) (sofar : List CallRecord) (cur bs : List ℕ) (cs : List CallRecord) → AllByRecursion NotTen cur → calls_from pages n sofar cur bs ≡ Ok cs → (ts : List CallRecord) × (cs ≡ sofar ++ ts) × Lines pages n (cur ++ bs) ts
 lines_from pages n sofar cur [] cs clean e =
     let same : cs ≡ sofar = grind (arith, nat_tests) in
     let none : length cur ≡ 0 = grind (arith, nat_tests) in
@@ -36,7 +36,7 @@ lines_from pages n sofar cur (b ∷ bs) cs clean e = elim (cases_Bool (eqb b 10)
 ]
 
 -- Bytes without a byte 10 are part of the line.
-skip : (pages n : ℕ) (sofar : List CallRecord) (cur line more : List ℕ) → All NotTen line → calls_from pages n sofar cur (line ++ more) ≡ calls_from pages n sofar (cur ++ line) more
+skip : (pages n : ℕ) (sofar : List CallRecord) (cur line more : List ℕ) → AllByRecursion NotTen line → calls_from pages n sofar cur (line ++ more) ≡ calls_from pages n sofar (cur ++ line) more
 skip pages n sofar cur [] more clean = ap (λ x. calls_from pages n sofar x more) (sym (append-nil cur))
 skip pages n sofar cur (b ∷ line) more clean =
     cond-false (eqb b 10) _ _ (ne_eqb b 10 clean.0) ∙ skip pages n sofar (cur ++ b ∷ []) line more clean.1 ∙ ap (λ x. calls_from pages n sofar x more) (append_assoc cur (b ∷ []) line)
@@ -50,7 +50,7 @@ from_lines pages n sofar bs (c ∷ ts) l =
     ∙ from_lines pages (n + 1) (sofar ++ c ∷ []) l.1 ts l.4 ∙ ap Ok (append_assoc sofar (c ∷ []) ts)
 
 -- The first line of some bytes, and what stands after it.
-length_first : (line rest : List ℕ) → All NotTen line → line_length (line ++ 10 ∷ rest) ≡ length line
+length_first : (line rest : List ℕ) → AllByRecursion NotTen line → line_length (line ++ 10 ∷ rest) ≡ length line
 length_first [] rest clean = refl
 length_first (b ∷ line) rest clean =
     let t = ne_eqb b 10 clean.0 in

@@ -1,5 +1,5 @@
 use Rattle.std.specs.Prelude.{◌≡◌, ℕ, ◌+◌, ◌≤◌, List, [], ◌∷◌, ◌++◌, length, Ok, Err, Result, ◌≢◌}
-use Rattle.std.specs.List.{AllByRecursion as All}
+use Rattle.std.specs.List.{AllByRecursion}
 use Rattle.lines.specs.declared.Header.{Header}
 use Rattle.lines.specs.declared.CallRecord.{CallRecord}
 use Rattle.lines.specs.Headers.{header_of}
@@ -10,7 +10,7 @@ use Rattle.recordings.specs.declared.Summary.{Summary}
 -- Some bytes are a line, ended by a byte 10 and with no other in it, and then the rest.
 pub record Ends (bs line rest : List ℕ) : Type 0 where
   pub joined : bs ≡ line ++ 10 ∷ rest
-  pub inside : All (λ b. b ≢ 10) line
+  pub inside : AllByRecursion (λ b. b ≢ 10) line
 
 -- Some bytes are lines, from line n on, that tell these calls one by one, and nothing more.
 abbrev pub Lines : ℕ → ℕ → List ℕ → List CallRecord → Type 0

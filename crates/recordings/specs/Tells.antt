@@ -1,15 +1,15 @@
-use Rattle.fields.specs.Problems.{number_of as field-number}
+use Rattle.fields.specs.Problems.{number_of as field_number}
 use Rattle.lines.specs.declared.LineFault.{LineFault}
 use Rattle.lines.specs.declared.LineFault.TheVariants.{Field, Shape}
-use Rattle.lines.specs.Problems.{number_of as line-number}
+use Rattle.lines.specs.Problems.{number_of as line_number}
 use Rattle.recordings.specs.declared.Told.{Told}
 use Rattle.recordings.specs.declared.RunFault.{RunFault}
 use Rattle.recordings.specs.declared.RunFault.TheVariants.{Line, TooLong, TableShort}
 
 -- What a fault of a line tells: its number and its place.
 abbrev pub line_tells : LineFault → Told
-line_tells (Field f) = record { number = field-number f.problem; line = f.line; column = f.column }
-line_tells (Shape problem line column) = record { number = line-number problem; line = line; column = column }
+line_tells (Field f) = record { number = field_number f.problem; line = f.line; column = f.column }
+line_tells (Shape problem line column) = record { number = line_number problem; line = line; column = column }
 
 -- What a fault of a recording tells. One that belongs to no line is told at line 0, column 0.
 abbrev pub tells_of : RunFault → Told

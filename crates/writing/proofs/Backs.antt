@@ -1,6 +1,6 @@
 -- Lines that are written read back.
 use Rattle.std.proofs.Common.{◌≡◌, ℕ, ◌+◌, ◌-◌, ◌^◌, ◌<◌, ◌≤◌, cond, eqb, ltb, ◌⊎◌, List, [], ◌∷◌, ◌++◌, length, get_or, take, drop, replicate, Ok, Err, decimal, sym, refl, ap, ◌∙◌, inl, inr, append_assoc, arith}
-use Rattle.std.specs.List.{between, AllByRecursion as All}
+use Rattle.std.specs.List.{between, AllByRecursion}
 use Rattle.std.proofs.lemmas.Fmt.{digits_decimal}
 use Rattle.std.proofs.ByRecursion.{All-append, All-from_get_or}
 use Rattle.std.proofs.lemmas.List.{length-append, length-replicate, get_or-replicate, get_or_at, take_at, take_all, drop_at, drop-drop}
@@ -28,7 +28,7 @@ abbrev NotTen : ℕ → Type 0
 NotTen b = b ≡ 10 → ⊥
 
 -- No written number has a byte 10.
-pub justified_clean : (w v : ℕ) → v < 2 ^ 32 → All NotTen (justified w v)
+pub justified_clean : (w v : ℕ) → v < 2 ^ 32 → AllByRecursion NotTen (justified w v)
 justified_clean w v small =
     All-append NotTen (replicate (w - length (decimal v)) 32) (decimal v)
     (All-from_get_or NotTen (replicate (w - length (decimal v)) 32) 0 (λ i h e. let l = length-replicate {A = ℕ} (w - length (decimal v)) 32 in let g : get_or (replicate {A = ℕ} (w - length (decimal v)) 32) i 0 ≡ 32 = get_or-replicate (w - length (decimal v)) i 32 0 (omega arith) in omega arith))
@@ -80,7 +80,7 @@ rule_clean : (r : ℕ) → (r ≡ 79) ⊎ (r ≡ 76) → NotTen r
 rule_clean r (inl e) = λ f. omega arith
 rule_clean r (inr e) = λ f. omega arith
 
-pub header_clean : (h : Header) → HeaderFit h → h.seed < 2 ^ 32 → All NotTen (header_line h)
+pub header_clean : (h : Header) → HeaderFit h → h.seed < 2 ^ 32 → AllByRecursion NotTen (header_line h)
 header_clean h fit small =
     let a = fit.pages in let b = fit.top in (
       λ e. omega arith,
@@ -125,12 +125,12 @@ letter_clean : (l : ℕ) → (l ≡ 82) ⊎ (l ≡ 87) → NotTen l
 letter_clean l (inl e) = λ f. omega arith
 letter_clean l (inr e) = λ f. omega arith
 
-pub call_clean : (pages : ℕ) (c : CallRecord) → pages ≤ 512 → CallFit pages c → All NotTen (call_line c)
+pub call_clean : (pages : ℕ) (c : CallRecord) → pages ≤ 512 → CallFit pages c → AllByRecursion NotTen (call_line c)
 call_clean pages c few (inl f) = let below = f.1 in rw (use_line c f.0) (letter_clean c.letter f.0, justified_clean 5 c.page (omega arith))
 call_clean pages c few (inr f) = rw (settle_line c f.0) (λ e. omega arith, tt)
 
 -- Lines that are written tell the calls one by one.
-pub calls_read : (n pages : ℕ) (cs : List CallRecord) → 2 ≤ n → pages ≤ 512 → All (CallFit pages) cs → Lines pages n (calls_text cs) cs
+pub calls_read : (n pages : ℕ) (cs : List CallRecord) → 2 ≤ n → pages ≤ 512 → AllByRecursion (CallFit pages) cs → Lines pages n (calls_text cs) cs
 calls_read n pages [] later few fit = refl
 calls_read n pages (c ∷ cs) later few fit =
     (call_line c, calls_text cs, record { joined = append_assoc (call_line c) (10 ∷ []) (calls_text cs); inside = call_clean pages c few fit.0 }, call_reads n pages c later few fit.0, calls_read (n + 1) pages cs (omega arith) few fit.1)

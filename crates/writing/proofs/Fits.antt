@@ -1,6 +1,6 @@
 -- What passes the checks is in range, and what is in range passes them.
 use Rattle.std.proofs.Common.{◌≡◌, ℕ, ◌+◌, ◌≤◌, List, [], ◌∷◌, Ok, Err, Result, refl, ap, ◌∙◌, inl, inr, arith}
-use Rattle.std.specs.List.{AllByRecursion as All}
+use Rattle.std.specs.List.{AllByRecursion}
 use Rattle.std.proofs.lemmas.Fmt.{length-decimal-le}
 use Rattle.std.proofs.ByRecursion.{All-weaker}
 use Rattle.std.proofs.lemmas.Bool.{cases_eq}
@@ -34,11 +34,11 @@ both_there : {G : Type 0} (q next : Result (Unit {0}) LineFault) (u : Unit {0}) 
 both_there (Ok v) next u e take-it = take-it v refl e
 both_there (Err x) next u e take-it = absurd (let z : ◌≡◌ {A = ℕ} 0 1 = cc in omega arith)
 
-pub calls_fit : (n pages : ℕ) (cs : List CallRecord) (u : Unit {0}) → calls_in_range n pages cs ≡ Ok u → All (CallFit pages) cs
+pub calls_fit : (n pages : ℕ) (cs : List CallRecord) (u : Unit {0}) → calls_in_range n pages cs ≡ Ok u → AllByRecursion (CallFit pages) cs
 calls_fit n pages [] u e = tt
 calls_fit n pages (c ∷ cs) u e = both_there (call_in_range n pages c) (calls_in_range (n + 1) pages cs) u e (λ v f g. (call_fit n pages c v f, calls_fit (n + 1) pages cs u g))
 
-pub fit_calls : (n pages : ℕ) (cs : List CallRecord) → All (CallFit pages) cs → calls_in_range n pages cs ≡ Ok tt
+pub fit_calls : (n pages : ℕ) (cs : List CallRecord) → AllByRecursion (CallFit pages) cs → calls_in_range n pages cs ≡ Ok tt
 fit_calls n pages [] fit = refl
 fit_calls n pages (c ∷ cs) fit = ap (λ q. and_then q (calls_in_range (n + 1) pages cs)) (fit_call n pages c fit.0) ∙ fit_calls (n + 1) pages cs fit.1
 
@@ -47,5 +47,5 @@ pub call_narrow : (pages : ℕ) (c : CallRecord) → pages ≤ 512 → CallFit p
 call_narrow pages c few (inl f) = let p = f.1 in length-decimal-le 5 c.page (omega arith) (omega arith) (omega arith)
 call_narrow pages c few (inr f) = let p = f.1 in length-decimal-le 5 c.page (omega arith) (omega arith) (omega arith)
 
-pub calls_narrow : (pages : ℕ) (cs : List CallRecord) → pages ≤ 512 → All (CallFit pages) cs → All Narrow cs
+pub calls_narrow : (pages : ℕ) (cs : List CallRecord) → pages ≤ 512 → AllByRecursion (CallFit pages) cs → AllByRecursion Narrow cs
 calls_narrow pages cs few fit = All-weaker (CallFit pages) Narrow (λ c f. call_narrow pages c few f) cs fit

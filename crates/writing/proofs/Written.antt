@@ -1,7 +1,7 @@
 -- What is known of a header and calls that are written, and of those that are refused.
 use Rattle.std.proofs.Common.{◌≡◌, ℕ, ◌+◌, ◌^◌, ◌<◌, ◌≤◌, ltb, List, length, Ok, Err, Result, sym, refl, ap, ◌∙◌, inl, inr, arith}
 use Rattle.std.specs.Result.{result_map_both}
-use Rattle.std.specs.List.{AllByRecursion as All}
+use Rattle.std.specs.List.{AllByRecursion}
 use Rattle.std.proofs.lemmas.List.{length-append}
 use Rattle.std.proofs.lemmas.Bool.{cases_lt, cond-true, cond-false, lt-ltb, le-ltb}
 use Rattle.lines.specs.declared.Header.{Header}
@@ -56,14 +56,14 @@ measured_length h g cs u small e f =
 -- A header and calls in range, whose text is short enough.
 pub record Written (h : Header) (cs : List CallRecord) : Type 0 where
   pub header : HeaderFit h
-  pub calls : All (CallFit h.pages) cs
+  pub calls : AllByRecursion (CallFit h.pages) cs
   pub short : length (text_of h cs) ≤ 60000
 
 -- These are written, as their text.
 pub written : (h : Header) (cs : List CallRecord) → Written h cs → written_text h cs ≡ Ok (text_of h cs)
 written h cs w = in_short h h cs tt (fit_header h w.header) (fit_calls 2 h.pages cs w.calls) ∙ short_is (text_of h cs) w.short
 
-by_length : (h : Header) (cs : List CallRecord) (t : List ℕ) → HeaderFit h → All (CallFit h.pages) cs → short_text (text_of h cs) ≡ Ok t → Written h cs × (t ≡ text_of h cs)
+by_length : (h : Header) (cs : List CallRecord) (t : List ℕ) → HeaderFit h → AllByRecursion (CallFit h.pages) cs → short_text (text_of h cs) ≡ Ok t → Written h cs × (t ≡ text_of h cs)
 by_length h cs t a b e = elim (cases_lt 60000 (length (text_of h cs))) [
   | inl long ↦ absurd (let f = long_is (text_of h cs) long in let z : ◌≡◌ {A = ℕ} 0 1 = cc in omega arith)
   | inr short ↦ let f = short_is (text_of h cs) short in (record { header = a; calls = b; short = short }, cc)

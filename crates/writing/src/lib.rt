@@ -3,7 +3,7 @@
 
 ghost use Rattle.std.specs.Prelude.{◌≡◌, ◌+◌, ◌≤◌, length, decimal};
 ghost use Rattle.std.specs.Result.{result_map_both};
-ghost use Rattle.std.specs.List.{AllByRecursion as All};
+ghost use Rattle.std.specs.List.{AllByRecursion};
 ghost use Rattle.fields.specs.Justified.{justified};
 ghost use Rattle.lines.specs.Fit.{HeaderFit};
 ghost use Rattle.recordings.specs.Whole.{table_after};
@@ -115,7 +115,7 @@ fn call_length(call: CallRecord) -> usize
 
 // How long a recording with these calls is, if that is not too long.
 fn text_length(calls: &[CallRecord]) -> Result<usize, RunFault>
-    requires { All Narrow calls.now }
+    requires { AllByRecursion Narrow calls.now }
     ensures { result ≡ short_length (21 + length (calls_text calls.now)) }
 {
     let mut length = HEADER_LENGTH;
@@ -130,7 +130,7 @@ fn text_length(calls: &[CallRecord]) -> Result<usize, RunFault>
 
 // Puts the lines of the calls at the front of the bytes, one after another.
 fn put_calls(calls: &[CallRecord], bytes: &mut [u8])
-    requires narrow { All Narrow calls.now }
+    requires narrow { AllByRecursion Narrow calls.now }
     requires room { length (calls_text calls.now) ≤ length bytes.old }
     ensures { bytes.new ≡ text_first (calls_text calls.now) bytes.old }
 {
