@@ -1,18 +1,19 @@
 #!/usr/bin/env python3
 """Respells the repository's own definitions and lemmas: words in snake case, types in camel case.
 
-usage: python3 tools/respell_names.py        at the top, once, right after /opt/rattle/port/port.py
+usage: python3 tools/respell_names.py [--anyway]        at the top, once, right after the kit's porting script
 
 A dash stays only where it joins the names of two functions, as in `weigh-set`. Names that Rattle makes (goals,
 invariants and measures in the folder of a function's proof) and names of src/ are left alone.
-It prints each name that it would bring together with another, and then changes nothing.
+It prints each name that it would bring together with another of the same file, and then changes nothing; with
+--anyway it goes on, as was done here for fields of two records that have one name.
 """
 import os
 import re
 import sys
 
 # Functions whose names a lemma's name joins: the outer call first.
-JOINED = set("append cut drop entered exchanged getD length map named noted occ over place raised set take total used weigh without".split())
+JOINED = set("append cut drop entered exchanged get_or length map named noted occ over place raised set take total used weigh without".split())
 MADE = re.compile(r"^(returns|invariant|loop|decreases|bounds|slice-bounds|overflow|unreachable|prove|nonzero|offset)(-|$)|-requires(-\w+)?$")
 # Names that would fall together with another of the same file.
 OWN = {"callsIn": "model_calls", "saved-below": "saved_below_lem"}
@@ -36,12 +37,11 @@ def respelled(name):
         return name
     if name[0].isupper():
         return "".join(part[0].upper() + part[1:] for part in name.split("-") if part)
-    if re.search(r"[a-z0-9][A-Z]", name):
-        name = re.sub(r"(?<=[a-z0-9])([A-Z])", lambda m: ("_" if m.group(1) != "D" or "getD" not in name else "") + m.group(1).lower(), name) if "getD" not in name else name.replace("getD", "get_or")
+    name = re.sub(r"(?<=[a-z0-9])[A-Z]", lambda m: "_" + m.group(0).lower(), name.replace("getD", "get_or"))
     parts = name.split("-")
     text = parts[0]
     for before, after in zip(parts, parts[1:]):
-        text += ("-" if before in JOINED and after in JOINED | {"get_or"} or before == "get_or" and after in JOINED else "_") + after
+        text += ("-" if before in JOINED and after in JOINED else "_") + after
     return text
 
 
