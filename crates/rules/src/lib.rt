@@ -10,22 +10,18 @@ ghost use Rattle.std.proofs.Common.{rules};
 //
 // What a rule does is told by two functions of its told state and k alone:
 // the slot that it names, which is below k, and the state that comes after.
-// Asked about no slots it names 0 and keeps its state. It never refuses.
+// Asked about no slots it names 0 and keeps its state: the product asks for a rule that never refuses, and so for no `Option`.
 pub trait TopRule {
     // The letter by which a recording's header names the rule.
     const LETTER: u8;
 
-    ghost letter: { ℕ };
+    ghost LETTER: { ℕ };
 
     ghost told: { Self → ℕ };
 
     ghost slot: { ℕ → ℕ → ℕ };
 
     ghost next: { ℕ → ℕ → ℕ };
-
-    // `LETTER`, as a contract can speak of it.
-    fn header_letter() -> u8
-        ensures { result ≡ letter };
 
     // The state that the rule tells: all that its later choices depend on.
     fn state(&self) -> u32
@@ -42,7 +38,7 @@ pub trait TopRule {
 }
 
 // The oldest rule: the slots in turn, so that the page longest in the top leaves.
-#[derive(Clone, Copy)]
+#[derive(Clone, Copy, PartialEq, Eq, Debug)]
 pub struct Oldest {
     at: u32,
 }
@@ -58,7 +54,7 @@ impl Oldest {
 impl TopRule for Oldest {
     const LETTER: u8 = b'O';
 
-    ghost letter = { 79 };
+    ghost LETTER = { 79 };
 
     ghost told = { λ rule. rule.at };
 
@@ -69,10 +65,6 @@ impl TopRule for Oldest {
     ghost below = { Prim.search rules };
 
     ghost none = { Prim.search rules };
-
-    fn header_letter() -> u8 {
-        Self::LETTER
-    }
 
     fn state(&self) -> u32 {
         self.at
@@ -89,7 +81,7 @@ impl TopRule for Oldest {
 }
 
 // The lottery rule: a slot drawn from a linear congruential sequence.
-#[derive(Clone, Copy)]
+#[derive(Clone, Copy, PartialEq, Eq, Debug)]
 pub struct Lottery {
     drawn: u32,
 }
@@ -105,7 +97,7 @@ impl Lottery {
 impl TopRule for Lottery {
     const LETTER: u8 = b'L';
 
-    ghost letter = { 76 };
+    ghost LETTER = { 76 };
 
     ghost told = { λ rule. rule.drawn };
 
@@ -116,10 +108,6 @@ impl TopRule for Lottery {
     ghost below = { Prim.search rules };
 
     ghost none = { Prim.search rules };
-
-    fn header_letter() -> u8 {
-        Self::LETTER
-    }
 
     fn state(&self) -> u32 {
         self.drawn
