@@ -22,10 +22,6 @@ holds_chain ns ps n first last bs h = chained ns ps n None first bs h.first_is h
 pub holds_below : (ns ps : List (Option ℕ)) (n : ℕ) (first last : Option ℕ) (bs : List ℕ) → Holds ns ps n first last bs → (q : ℕ) → n ≤ q → occ q bs ≡ 0
 holds_below ns ps n first last bs h = seg_below ns ps n None bs None h.linked
 
--- With no first and no last, links hold the empty list.
-pub holds_empty : (ns ps : List (Option ℕ)) (n : ℕ) → Holds ns ps n None None []
-holds_empty ns ps n = record { first_is = refl; last_is = refl; linked = tt; once = λ q. omega arith }
-
 -- A list that links hold is no longer than the table.
 pub holds_fits : (ns ps : List (Option ℕ)) (n : ℕ) (first last : Option ℕ) (bs : List ℕ) → Holds ns ps n first last bs → length bs ≤ n
 holds_fits ns ps n first last bs h = pigeons n bs h.once (holds_below ns ps n first last bs h)

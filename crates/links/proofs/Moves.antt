@@ -6,7 +6,6 @@ use Rattle.lists.proofs.Weights.{eqb_cases, weigh-append}
 use Rattle.links.specs.Segs.{head_of, end_of, Seg}
 use Rattle.links.specs.Holds.{Holds}
 use Rattle.links.specs.Writes.{set_link, end_link}
-use Rattle.links.proofs.Kept.{map_wrote}
 use Rattle.links.proofs.Segs.{head_occ, last_occ, end_append, end_link_end, set_link_other, seg_left, seg_right, seg_join, seg_next_kept, seg_prev_kept, seg_new_end, seg_new_start}
 
 -- The same list, where each part is known under another name.
@@ -95,13 +94,12 @@ module _ (ns ps : List (Option ℕ)) (n : ℕ) (to-ns : n ≤ length ns) (to-ps 
   })
 
 -- What a removal's calls promise, taken together.
-module _ {X : Type 0} (after before : X → Option ℕ) (t t₁ t₂ : List X) (d d' : X) (p : ℕ) (first last first₁ last₁ first₂ last₂ b a : Option ℕ) where
-  pub removes : length t₂ ≡ length t → b ≡ before (get_or t p d) → a ≡ after (get_or t p d')
-      → map after t₁ ≡ set_link (map after t) b a → map before t₁ ≡ map before t → first₁ ≡ end_link first b a → last₁ ≡ last
-      → map after t₂ ≡ map after t₁ → map before t₂ ≡ set_link (map before t₁) a b → first₂ ≡ first₁ → last₂ ≡ end_link last₁ a b
-      → (xs ys : List ℕ) → Holds (map after t) (map before t) (length t) first last (xs ++ (p ∷ ys)) → Holds (map after t₂) (map before t₂) (length t₂) first₂ last₂ (xs ++ ys)
-  removes len b-is a-is after₁ before₁ f₁ l₁ after₂ before₂ f₂ l₂ xs ys h =
-      holds_as (after₂ ∙ after₁ ∙ links) (before₂ ∙ rw before₁ backs) len (f₂ ∙ f₁ ∙ begins) (l₂ ∙ rw l₁ ends)
+module _ {X : Type 0} (after before : X → Option ℕ) (t t' : List X) (d d' : X) (p : ℕ) (first last first' last' b a : Option ℕ) where
+  pub removes : length t' ≡ length t → b ≡ before (get_or t p d) → a ≡ after (get_or t p d')
+      → map after t' ≡ set_link (map after t) b a → map before t' ≡ set_link (map before t) a b → first' ≡ end_link first b a → last' ≡ end_link last a b
+      → (xs ys : List ℕ) → Holds (map after t) (map before t) (length t) first last (xs ++ (p ∷ ys)) → Holds (map after t') (map before t') (length t') first' last' (xs ++ ys)
+  removes len b-is a-is after' before' f l xs ys h =
+      holds_as (after' ∙ links) (before' ∙ backs) len (f ∙ begins) (l ∙ ends)
       (taken_out (map after t) (map before t) (length t) (omega (arith, length-map t after)) (omega (arith, length-map t before)) xs ys p h.once first last h) where
         here : Seg (map after t) (map before t) (length t) (end_of None xs) (p ∷ ys) None
         here = seg_right (map after t) (map before t) (length t) None xs (p ∷ ys) None h.linked
@@ -127,12 +125,3 @@ module _ {X : Type 0} (after before : X → Option ℕ) (t t₁ t₂ : List X) (
 -- A removal of what lies past the table: no list has it.
 pub removes_none : (ns ps : List (Option ℕ)) (n : ℕ) (first last : Option ℕ) (p : ℕ) → n ≤ p → {G : Type 0} (xs ys : List ℕ) → Holds ns ps n first last (xs ++ (p ∷ ys)) → G
 removes_none ns ps n first last p le xs ys h = absurd (omega (arith, (seg_right ns ps n None xs (p ∷ ys) None h.linked).0))
-
--- What a push's calls promise, taken together.
-module _ {X : Type 0} (after before : X → Option ℕ) (t t₂ : List X) (new : X) (p : ℕ) (first last last₂ : Option ℕ) where
-  pub pushes : length t₂ ≡ length t → after new ≡ first → before new ≡ None
-      → map after t₂ ≡ map after (set t p new) → map before t₂ ≡ set_link (map before (set t p new)) first (Some p) → last₂ ≡ end_link last first (Some p)
-      → (bs : List ℕ) → Holds (map after t) (map before t) (length t) first last bs → p < length t → occ p bs ≡ 0 → Holds (map after t₂) (map before t₂) (length t₂) (Some p) last₂ (p ∷ bs)
-  pushes len new-after new-before after₂ before₂ l₂ bs h lt out =
-      holds_as (after₂ ∙ map_wrote after t p new first new-after) (before₂ ∙ ap (λ ls. set_link ls first (Some p)) (map_wrote before t p new None new-before)) len refl l₂
-      (pushed (map after t) (map before t) (length t) (omega (arith, length-map t after)) (omega (arith, length-map t before)) first last p bs h lt out)

@@ -1,10 +1,13 @@
 -- One step of a walk along the links, and its ends.
-use Rattle.std.proofs.Common.{◌≡◌, ℕ, zero, suc, ◌+◌, ◌-◌, ◌<◌, ◌≤◌, ◌≢◌, List, [], ◌∷◌, map, length, get_or, Some, None, Option, sym, refl, ap, ◌∙◌, add-one, arith}
+use Rattle.std.proofs.Common.{◌≡◌, ℕ, zero, suc, ◌+◌, ◌-◌, ◌<◌, ◌≤◌, ◌≢◌, List, [], ◌∷◌, map, length, get_or, Some, None, Option, sym, refl, ap, ◌∙◌, add-one, inl, inr, arith}
 use Rattle.std.proofs.lemmas.List.{get_or-map}
-use Rattle.std.proofs.lemmas.Bool.{eq-eqb, ne_eqb}
+use Rattle.std.proofs.lemmas.Bool.{cases_lt, lt-ltb, le-ltb, eq-eqb, ne_eqb}
+use Rattle.lists.specs.Weights.{occ}
 use Rattle.lists.specs.Places.{place_from, place}
+use Rattle.lists.proofs.Places.{place_some, place_none}
 use Rattle.links.specs.Chain.{Chain}
 use Rattle.links.specs.Stepped.{stepped}
+use Rattle.links.specs.PlaceIn.{place_in}
 use Rattle.links.specs.Left.{Left}
 
 -- What is read from a record of the table is that of the table's view.
@@ -26,17 +29,27 @@ pub stepped_met : (links : List (Option ℕ)) (k : ℕ) (at here : Option ℕ) (
 stepped_met links k at here p b e h same = let back : k + 1 - 1 ≡ k = omega arith in rw back (e ∙ h ∙ ap Some same)
 
 module _ (links : List (Option ℕ)) (n p : ℕ) where
-  -- Where a walk begins, the whole list is left.
-  pub walk_starts : (first : Option ℕ) (bs : List ℕ) → Chain links n first bs → length bs ≤ n → Left links n first 0 p (place p bs)
-  walk_starts first bs ch le = record { rest = bs; chain = ch; fits = omega arith; gives = refl }
+  -- A place of 0 is none.
+  place_out : (bs : List ℕ) → 0 ≡ place p bs → None ≡ place_in p bs
+  place_out bs e = elim (cases_lt 0 (occ p bs)) [
+    | inl y ↦ absurd (omega (arith, place_some 0 p bs y))
+    | inr n ↦ rw (le-ltb 0 (occ p bs) n) refl
+  ]
+
+  -- A place above 0 is one in the list.
+  place_there : (d : ℕ) (bs : List ℕ) → 0 < d → d ≡ place p bs → Some d ≡ place_in p bs
+  place_there d bs h e = elim (cases_lt 0 (occ p bs)) [
+    | inl y ↦ rw (lt-ltb 0 (occ p bs) y) (ap Some e)
+    | inr n ↦ absurd (omega (arith, place_none 0 p bs (omega arith)))
+  ]
 
   ended : (at : Option ℕ) (walked whole : ℕ) (rest : List ℕ) → at ≡ None → Chain links n at rest → place_from walked p rest ≡ whole → 0 ≡ whole
   ended at walked whole [] e ch g = g
   ended at walked whole (b ∷ bs) e ch g = let h = ch.0 in let z : ◌≡◌ {A = ℕ} 0 1 = cc (h, e) in absurd (omega arith)
 
   -- With no link, p was not in the list.
-  pub walk_ends : (at : Option ℕ) (walked whole : ℕ) → at ≡ None → Left links n at walked p whole → 0 ≡ whole
-  walk_ends at walked whole e l = ended at walked whole l.rest e l.chain l.gives
+  pub walk_ends : (at : Option ℕ) (walked : ℕ) (bs : List ℕ) → at ≡ None → Left links n at walked p (place p bs) → None ≡ place_in p bs
+  walk_ends at walked bs e l = place_out bs (ended at walked (place p bs) l.rest e l.chain l.gives)
 
   inside : (at : Option ℕ) (walked b : ℕ) (rest : List ℕ) → at ≡ Some b → Chain links n at rest → walked + length rest ≤ n → (walked < n) × (b < n)
   inside at walked b [] e ch f = let z : ◌≡◌ {A = ℕ} 0 1 = cc (ch, e) in absurd (omega arith)
@@ -51,8 +64,8 @@ module _ (links : List (Option ℕ)) (n p : ℕ) where
   met at walked whole (x ∷ xs) e ch g = let h = ch.0 in let same : x ≡ p = cc (h, e) in rw (eq-eqb x p same) at g
 
   -- A link to p: the walk's next step is p's place.
-  pub walk_meets : (at : Option ℕ) (walked whole : ℕ) → at ≡ Some p → Left links n at walked p whole → walked + 1 ≡ whole
-  walk_meets at walked whole e l = met at walked whole l.rest e l.chain l.gives
+  pub walk_meets : (at : Option ℕ) (walked : ℕ) (bs : List ℕ) → at ≡ Some p → Left links n at walked p (place p bs) → Some (walked + 1) ≡ place_in p bs
+  walk_meets at walked bs e l = place_there (walked + 1) bs (omega arith) (met at walked (place p bs) l.rest e l.chain l.gives)
 
   moved : (at next : Option ℕ) (walked b whole : ℕ) (rest : List ℕ) → at ≡ Some b → next ≡ get_or links b None → b ≢ p → Chain links n at rest → walked + length rest ≤ n → place_from walked p rest ≡ whole → Left links n next (walked + 1) p whole
   moved at next walked b whole [] e to ne ch f g = let z : ◌≡◌ {A = ℕ} 0 1 = cc (ch, e) in absurd (omega arith)

@@ -1,7 +1,10 @@
 pub mod Chain
 pub mod Stepped
+pub mod PlaceIn
 pub mod Left
 pub mod Segs
 pub mod Holds
+pub mod Reads
 pub mod HeldIn
+pub mod Same
 pub mod Writes

@@ -42,7 +42,6 @@ none_dropped told c v o e s =
     rw same (record {
       arranged = record {
         sound = record { once = s.arranged.sound.once; fits = s.arranged.sound.fits; full = s.arranged.sound.full };
-        filled_is = s.arranged.filled_is;
         top_is = s.arranged.top_is;
         bottom_is = s.arranged.bottom_is;
         parts_are = s.arranged.parts_are;
@@ -94,8 +93,8 @@ pub last_dropped : {X : Type 0} (told : X → ℕ) (c c' : TwoParts X) (v v₁ v
     (s : Stands told c v o) → c.bottom.last ≡ Some e → length v.parts ≡ v.size → v₁.size ≡ v.size → v'.size ≡ v₁.size →
     ((xs ys : List ℕ) → LinkedAs v c.bottom (xs ++ (e ∷ ys)) → LinkedAs v₁ c'.bottom (xs ++ ys)) →
     v₁.parts ≡ v.parts → v'.nexts ≡ v₁.nexts → v'.prevs ≡ v₁.prevs → v'.parts ≡ set v₁.parts e Unused →
-    c'.slots ≡ c.slots → c'.filled ≡ c.filled → c'.top ≡ c.top → told c'.rule ≡ told c.rule → Stands told c' v' (without_last o)
-last_dropped told c c' v v₁ v' o e st last sized l₁ l₂ cuts a₁ ns ps a₂ sl fi to ru =
+    c'.slots ≡ c.slots → c'.top ≡ c.top → told c'.rule ≡ told c.rule → Stands told c' v' (without_last o)
+last_dropped told c c' v v₁ v' o e st last sized l₁ l₂ cuts a₁ ns ps a₂ sl to ru =
     let s = st.arranged in
     let front : List ℕ = take (length o.bottom - 1) o.bottom in
     let long : v'.size ≡ v.size = omega (arith, l₁, l₂) in
@@ -104,8 +103,7 @@ last_dropped told c c' v v₁ v' o e st last sized l₁ l₂ cuts a₁ ns ps a�
     record {
       arranged = record {
         sound = rw (long, sl) (sound_dropped c v o e s last);
-        filled_is = s.filled_is ∙ sym fi;
-        top_is = rw (fi, to) s.top_is;
+        top_is = rw to s.top_is;
         bottom_is = rw (ns, ps, l₂) cut;
         parts_are = rw long (parts_dropped c v o e s last v'.parts sized (a₂ ∙ ap (λ xs. set xs e Unused) a₁));
       };

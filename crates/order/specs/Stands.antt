@@ -1,4 +1,4 @@
-use Rattle.std.specs.Prelude.{◌≡◌, ℕ, ◌<◌, cond, ◌≢◌, List, length, get_or, take, slice_index_or}
+use Rattle.std.specs.Prelude.{◌≡◌, ℕ, ◌<◌, cond, ◌≢◌, List, get_or, slice_index_or}
 use Rattle.lists.specs.Weights.{has, occ}
 use Rattle.links.specs.declared.Part.{Part}
 use Rattle.links.specs.declared.Part.TheVariants.{Unused, Top, Bottom}
@@ -20,12 +20,11 @@ pub record SaysBottom (parts : List Part) (p : ℕ) (bs : List ℕ) : Type 0 whe
   pub there : get_or parts p Unused ≡ Bottom → 0 < occ p bs
   pub away : get_or parts p Unused ≢ Bottom → occ p bs ≡ 0
 
--- The two parts and a table are arranged as an order: the filled slots are its top, the links give its bottom both ways,
+-- The two parts and a table are arranged as an order: the pages of the slots are its top, the links give its bottom both ways,
 -- and each record has its page's part. Nothing is said of the rule.
 pub record Arranged {X : Type 0} (c : TwoParts X) (v : Views) (o : Order) : Type 0 where
   pub sound : Sound v.size c.slots o
-  pub filled_is : length o.top ≡ c.filled
-  pub top_is : take c.filled c.top ≡ o.top
+  pub top_is : c.top.items ≡ o.top
   pub bottom_is : LinkedAs v c.bottom o.bottom
   pub parts_are : (q : ℕ) → q < v.size → slice_index_or v.parts q Unused ≡ part_of o q
 

@@ -1,9 +1,11 @@
-use Rattle.std.proofs.Common.{arith}
-use Rattle.order.proofs.Standing.{slot_found, slot_none}
+use Rattle.std.proofs.Common.{◌≡◌, eqb, ap, ◌∙◌, rules, tests}
+use Rattle.std.specs.List.{position}
+use Rattle.std.proofs.lemmas.Iterator.{YieldsList-from_slice}
+use Rattle.std.proofs.lemmas.Iterator.Search.{position_from_yields_List}
+use Rattle.order.proofs.Standing.{first_slot}
 use Rattle.order.proofs.parts.TwoParts.slot_of.Goals as goal
 
-pub returns-then-self-slot : goal.returns-then-self-slot
-returns-then-self-slot g c = λ v o s. slot_found c.args.self.now v o s c.args.page c.loop-slot.slot c.loop-slot-test.true c.if-self-slot.true c.loop-slot.invariant
-
 pub returns : goal.returns
-returns g c = λ v o s. slot_none c.args.self.now v o s c.args.page (λ k low. c.loop-slot.invariant k (omega (arith, low, c.loop-slot-test.false)))
+returns g c =
+    let found : c.position.result ≡ position (λ x. eqb x c.args.page) c.deref.result.now = position_from_yields_List (λ x. eqb x c.args.page) _ _ c.position.result c.position.ensures.ran (YieldsList-from_slice _ c.iter.ensures.rest) (λ x b q k. search (rules, tests)) in
+    λ v o s. found ∙ (ap (position (λ x. eqb x c.args.page)) (c.deref.ensures.0 ∙ s.top_is) ∙ first_slot c.args.page o)
