@@ -1,11 +1,11 @@
 -- A copy page by page.
 use Rattle.std.proofs.Common.{◌≡◌, ℕ, zero, suc, ◌+◌, ◌<◌, eqb, List, [], ◌∷◌, ◌++◌, length, get_or, take, drop, set, Ok, Err, sym, refl, ap, ◌∙◌, append_assoc, add-one, arith}
-use Rattle.std.proofs.lemmas.List.{length-append, length-take-le, length-drop, set_at, take_more, take_all, drop_all, drop_more, append-nil}
+use Rattle.std.proofs.lemmas.List.{length-take-le, set_at, take_more, take_all, drop_all, drop_more, append-nil}
 use Rattle.std.proofs.lemmas.Bool.{cond-true, eq-eqb}
 use Rattle.store.specs.declared.StoreRefusal.TheVariants.{NoSuchPage}
 use Rattle.store.specs.Copies.{Copied, risen}
-use Rattle.store.specs.Meaning.{Meaning, counted, fetched, saved}
-use Rattle.store.specs.Sized.{Sized}
+use Rattle.store.specs.Meaning.{Meaning, fetched, saved}
+use Rattle.store.specs.Counting.{counted}
 
 -- A tally counted n times more.
 abbrev pub climbed : ℕ → ℕ → ℕ
@@ -25,11 +25,11 @@ climbed_is t (suc n) h = climbed_suc t n
 
 -- The store that is copied from, after n pages.
 abbrev pub read_to : Meaning → ℕ → Meaning
-read_to a n = record { bytes = a.bytes; fetches = climbed a.fetches n; saves = a.saves }
+read_to a n = record a { tallies = record a.tallies { fetches = climbed a.tallies.fetches n } }
 
 -- The store that is copied into, after n pages: the first n are those of xs.
 abbrev pub written_to : Meaning → List (List ℕ) → ℕ → Meaning
-written_to b xs n = record { bytes = take n xs ++ drop n b.bytes; fetches = b.fetches; saves = climbed b.saves n }
+written_to b xs n = record { bytes = take n xs ++ drop n b.bytes; tallies = record b.tallies { saves = climbed b.tallies.saves n } }
 
 -- One page more.
 written_bytes : (xs ys : List (List ℕ)) (n : ℕ) → n < length xs → n < length ys → set (take n xs ++ drop n ys) n (get_or xs n []) ≡ take (n + 1) xs ++ drop (n + 1) ys
@@ -45,26 +45,9 @@ pub record Halfway (a b a1 b1 : Meaning) (n : ℕ) : Type 0 where
   pub read : a1 ≡ read_to a n
   pub written : b1 ≡ written_to b a.bytes n
 
-pub halfway_none : (a b : Meaning) → Halfway a b a b 0
-halfway_none a b = record { read = refl; written = refl }
-
 module _ (a b a1 b1 : Meaning) (n : ℕ) (w : Halfway a b a1 b1 n) (same : length a.bytes ≡ length b.bytes) where
   a_bytes : a1.bytes ≡ a.bytes
   a_bytes = ap (λ (m : Meaning). m.bytes) w.read
-
-  pub halfway_there : n < length a.bytes → n < length a1.bytes
-  halfway_there h = let e = ap length a_bytes in omega arith
-
-  pub halfway_here : n < length a.bytes → n < length b1.bytes
-  halfway_here h =
-      let e = ap (λ (m : Meaning). length m.bytes) w.written in
-      let s = length-append (take n a.bytes) (drop n b.bytes) in
-      let t = length-take-le n a.bytes (omega arith) in
-      let d = length-drop n b.bytes in
-      omega arith
-
-  pub halfway_long : Sized a.bytes → n < length a.bytes → length (get_or a1.bytes n []) ≡ 64
-  halfway_long z h = ap (λ (xs : List (List ℕ)). length (get_or xs n [])) a_bytes ∙ z.even n h
 
   pub halfway_more : (a2 b2 : Meaning) → n < length a.bytes → a2 ≡ fetched a1 → b2 ≡ saved b1 n (get_or a1.bytes n []) → Halfway a b a2 b2 (n + 1)
   halfway_more a2 b2 h e f =
@@ -72,8 +55,8 @@ module _ (a b a1 b1 : Meaning) (n : ℕ) (w : Halfway a b a1 b1 n) (same : lengt
       let x = w.written in
       let k = a_bytes in
       let g = written_bytes a.bytes b.bytes n h (omega arith) in
-      let p = climbed_more a.fetches n in
-      let q = climbed_more b.saves n in
+      let p = climbed_more a.tallies.fetches n in
+      let q = climbed_more b.tallies.saves n in
       record { read = cc; written = cc }
 
   -- All the pages.
@@ -84,6 +67,6 @@ module _ (a b a1 b1 : Meaning) (n : ℕ) (w : Halfway a b a1 b1 n) (same : lengt
       let t = take_all n a.bytes (omega arith) in
       let d = drop_all n b.bytes (omega arith) in
       let k = append-nil a.bytes in
-      let p = climbed_is a.fetches n h in
-      let q = climbed_is b.saves n h in
+      let p = climbed_is a.tallies.fetches n h in
+      let q = climbed_is b.tallies.saves n h in
       record { answered = sym (cond-true (eqb (length a.bytes) (length b.bytes)) (Ok tt) (Err NoSuchPage) (eq-eqb _ _ same)); effect = (cc, cc) }

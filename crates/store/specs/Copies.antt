@@ -10,11 +10,11 @@ risen tally n = (tally + n) % 4294967296
 
 -- A store of which every page was fetched once.
 abbrev pub read_through : Meaning → Meaning
-read_through m = record { bytes = m.bytes; fetches = risen m.fetches (length m.bytes); saves = m.saves }
+read_through m = record m { tallies = record m.tallies { fetches = risen m.tallies.fetches (length m.bytes) } }
 
 -- A store to every page of which those bytes were saved, once.
 abbrev pub written_over : Meaning → List (List ℕ) → Meaning
-written_over m bytes = record { bytes = bytes; fetches = m.fetches; saves = risen m.saves (length bytes) }
+written_over m bytes = record { bytes = bytes; tallies = record m.tallies { saves = risen m.tallies.saves (length bytes) } }
 
 -- A copy of the store a into the store b that answered r. Where one has a page that the other lacks
 -- it is refused, and both are as they were.

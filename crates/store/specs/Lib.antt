@@ -1,3 +1,4 @@
+pub mod Counting
 pub mod Meaning
 pub mod Refusals
 pub mod Uses
@@ -5,3 +6,5 @@ pub mod Sized
 pub mod Memory
 pub mod Splices
 pub mod Copies
+pub mod SizedPages
+pub mod SizedSplice

@@ -2,6 +2,7 @@ use Rattle.std.specs.Prelude.{◌≡◌, ℕ, ◌+◌, ◌*◌, ◌/◌, ◌<◌
 use Rattle.std.specs.List.{between, range_with_len}
 use Rattle.store.specs.declared.StoreRefusal.{StoreRefusal}
 use Rattle.store.specs.declared.StoreRefusal.TheVariants.{StoreLength}
+use Rattle.store.specs.declared.tallies.Tallies.{Tallies}
 use Rattle.store.specs.Meaning.{Meaning}
 
 -- A length that is 64 × pages, for a number of pages that a store may have.
@@ -27,6 +28,6 @@ page_of m p = between (64 * p) (64 * p + 64) m
 abbrev pub pages_of : List ℕ → List (List ℕ)
 pages_of m = map (page_of m) (range_with_len 0 (length m / 64))
 
--- What a plain store over a memory means, with its two tallies.
-abbrev pub plain : List ℕ → ℕ → ℕ → Meaning
-plain m f s = record { bytes = pages_of m; fetches = f; saves = s }
+-- What a plain store over a memory means, with its tallies.
+abbrev pub plain : List ℕ → Tallies → Meaning
+plain m t = record { bytes = pages_of m; tallies = t }

@@ -10,10 +10,12 @@ ghost use Rattle.store.specs.Uses.{may_use, Fetched, Saved};
 pub mod copying;
 pub mod plain;
 pub mod spliced;
+pub mod tallies;
 
 pub use copying::copy_store;
 pub use plain::{PlainStore, may_hold};
 pub use spliced::SplicedStore;
+pub use tallies::Tallies;
 
 // The bytes of a page.
 pub const PAGE_BYTES: usize = 64;
@@ -21,30 +23,24 @@ pub const PAGE_BYTES: usize = 64;
 // The most pages that a store may have.
 pub const MOST_PAGES: usize = 512;
 
-// Why a store refuses. A refused call has altered nothing.
+// Why a store refuses, with the number by which each refusal is known. A refused call has altered nothing.
 #[derive(Clone, Copy, PartialEq, Eq, Debug)]
 pub enum StoreRefusal {
     // The length is not that of 1 to 512 whole pages.
-    StoreLength,
+    StoreLength = 1,
     // The page is not below the number of pages.
-    NoSuchPage,
+    NoSuchPage = 2,
     // The buffer is not 64 bytes.
-    BufferLength,
+    BufferLength = 3,
     // The page counts of a splice sum above 512.
-    TooManyPages,
+    TooManyPages = 7,
 }
 
-impl StoreRefusal {
-    // The number by which a refusal is known.
-    pub fn number(self) -> u32
-        ensures { result ≡ refusal_number self }
-    {
-        match self {
-            StoreRefusal::StoreLength => 1,
-            StoreRefusal::NoSuchPage => 2,
-            StoreRefusal::BufferLength => 3,
-            StoreRefusal::TooManyPages => 7,
-        }
+impl From<StoreRefusal> for u32 {
+    ghost from_gives = { λ e n. n ≡ refusal_number e };
+
+    fn from(refusal: StoreRefusal) -> u32 {
+        refusal as u32
     }
 }
 
@@ -63,36 +59,40 @@ pub fn may_use(pages: usize, page: usize, length: usize) -> Result<(), StoreRefu
 
 // A store of pages.
 //
-// An implementation says by `meaning` which pages and tallies its value stands for, and by `opened` what is true of
-// it from its opening on. Each call is then held to that meaning alone.
+// An implementation says by `meaning` which pages and tallies its value stands for. Each call is then held to that
+// meaning alone. By the law `sized` every value of it has from 1 to 512 pages, of 64 bytes each.
 pub trait PageStore {
     ghost meaning: { Self → Meaning };
 
-    ghost opened: { Self → Type 0 };
-
-    // How many pages there are: from 1 to 512, of 64 bytes each.
+    // How many pages there are.
     fn pages(&self) -> usize
-        requires { opened self.now }
-        ensures count { result ≡ length (meaning self.now).bytes }
-        ensures sized { Sized (meaning self.now).bytes };
+        ensures { result ≡ length (meaning self.now).bytes };
+
+    // How many fetches and how many saves were accepted.
+    fn tallies(&self) -> Tallies
+        ensures { result ≡ (meaning self.now).tallies };
 
     // How many fetches were accepted, modulo 4,294,967,296.
     fn fetches(&self) -> u32
-        ensures { result ≡ (meaning self.now).fetches };
+        ensures { result ≡ (meaning self.now).tallies.fetches }
+    {
+        self.tallies().fetches
+    }
 
     // How many saves were accepted, modulo 4,294,967,296.
     fn saves(&self) -> u32
-        ensures { result ≡ (meaning self.now).saves };
+        ensures { result ≡ (meaning self.now).tallies.saves }
+    {
+        self.tallies().saves
+    }
 
-    // Copies the bytes of a page into the buffer.
+    // Copies the bytes of a page into the buffer. A page and a buffer are what the product asks a call to have.
     fn fetch(&mut self, page: usize, buffer: &mut [u8]) -> Result<(), StoreRefusal>
-        requires { opened self.old }
-        ensures opened { opened self.new }
-        ensures effect { Fetched (meaning self.old) page buffer.old result (meaning self.new) buffer.new };
+        ensures { Fetched (meaning self.old) page buffer.old result (meaning self.new) buffer.new };
 
     // Replaces the bytes of a page by the buffer's.
     fn save(&mut self, page: usize, buffer: &[u8]) -> Result<(), StoreRefusal>
-        requires { opened self.old }
-        ensures opened { opened self.new }
-        ensures effect { Saved (meaning self.old) page buffer.now result (meaning self.new) };
+        ensures { Saved (meaning self.old) page buffer.now result (meaning self.new) };
+
+    ghost sized: { (x : Self) → Sized (meaning x).bytes };
 }

@@ -1,9 +1,10 @@
 // The plain store: pages in the caller's memory, one after another.
-ghost use Rattle.std.specs.Prelude.{◌≡◌, ◌/◌, ◌<◌, length, MatchResult};
+ghost use Rattle.std.specs.Prelude.{◌≡◌, ◌/◌, ◌<◌, true, length, MatchResult};
 ghost use Rattle.store.specs.declared.StoreRefusal.TheVariants.{StoreLength};
-ghost use Rattle.store.specs.Memory.{Whole, may_hold, page_of, plain};
+ghost use Rattle.store.specs.Memory.{Whole, whole, may_hold, page_of, plain};
+ghost use Rattle.store.specs.SizedPages.{pages_sized};
 
-use crate::{MOST_PAGES, PAGE_BYTES, PageStore, StoreRefusal, may_use};
+use crate::{MOST_PAGES, PAGE_BYTES, PageStore, StoreRefusal, Tallies, may_use};
 
 // Whether a plain store opens over a memory of `length` bytes.
 pub fn may_hold(length: usize) -> Result<(), StoreRefusal>
@@ -23,20 +24,19 @@ pub fn may_hold(length: usize) -> Result<(), StoreRefusal>
 #[derive(Drop)]
 pub struct PlainStore<'a> {
     memory: &'a mut [u8],
-    fetches: u32,
-    saves: u32,
+    tallies: Tallies,
+    pub ghost whole: { whole (length memory.now) ≡ true },
 }
 
 impl<'a> PlainStore<'a> {
     // Opens a store over `memory`, which it leaves as it is; refused where `may_hold` refuses the length.
     pub fn open(memory: &'a mut [u8]) -> Result<PlainStore<'a>, StoreRefusal>
-        ensures { MatchResult result (λ s. Whole (length s.memory.now) × (s.memory.now ≡ memory.old) × (s.fetches ≡ 0) × (s.saves ≡ 0)) (λ e. (e ≡ StoreLength) × (Whole (length memory.old) → ⊥)) }
+        ensures { MatchResult result (λ s. (s.memory.now ≡ memory.old) × (s.tallies ≡ record { fetches = 0; saves = 0 })) (λ e. (e ≡ StoreLength) × (Whole (length memory.old) → ⊥)) }
     {
         may_hold(memory.len())?;
         Ok(PlainStore {
             memory,
-            fetches: 0,
-            saves: 0,
+            tallies: Tallies::default(),
         })
     }
 
@@ -44,11 +44,7 @@ impl<'a> PlainStore<'a> {
     pub fn into_memory(self) -> &'a mut [u8]
         ensures { result.now ≡ self.entry.memory.now }
     {
-        let PlainStore {
-            memory,
-            fetches: _,
-            saves: _,
-        } = self;
+        let PlainStore { memory, tallies: _ } = self;
         memory
     }
 
@@ -62,26 +58,22 @@ impl<'a> PlainStore<'a> {
 }
 
 impl PageStore for PlainStore<'_> {
-    ghost meaning = { λ s. plain s.memory.now s.fetches s.saves };
+    ghost meaning = { λ s. plain s.memory.now s.tallies };
 
-    ghost opened = { λ s. Whole (length s.memory.now) };
+    ghost sized = { λ s. pages_sized s.memory.now s.whole };
 
     fn pages(&self) -> usize {
         self.memory.len() / PAGE_BYTES
     }
 
-    fn fetches(&self) -> u32 {
-        self.fetches
-    }
-
-    fn saves(&self) -> u32 {
-        self.saves
+    fn tallies(&self) -> Tallies {
+        self.tallies
     }
 
     fn fetch(&mut self, page: usize, buffer: &mut [u8]) -> Result<(), StoreRefusal> {
         may_use(self.pages(), page, buffer.len())?;
         self.copy_page(page, buffer);
-        self.fetches = self.fetches.wrapping_add(1);
+        self.tallies.note_fetch();
         Ok(())
     }
 
@@ -89,7 +81,7 @@ impl PageStore for PlainStore<'_> {
         may_use(self.pages(), page, buffer.len())?;
         let from = PAGE_BYTES * page;
         self.memory[from..from + PAGE_BYTES].copy_from_slice(buffer);
-        self.saves = self.saves.wrapping_add(1);
+        self.tallies.note_save();
         Ok(())
     }
 }

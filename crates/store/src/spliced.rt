@@ -1,22 +1,22 @@
 // The spliced store: two stores of any make as one, the first one's pages coming first.
-ghost use Rattle.std.specs.Prelude.{◌≡◌, length};
-ghost use Rattle.store.specs.Splices.{Joined, may_splice, past_seam, spliced};
+ghost use Rattle.std.specs.Prelude.{◌≡◌, ◌+◌, ◌≤◌, length};
+ghost use Rattle.store.specs.Splices.{may_splice, past_seam, spliced};
+ghost use Rattle.store.specs.SizedSplice.{sized_splice};
 
-use crate::{MOST_PAGES, PageStore, StoreRefusal};
+use crate::{MOST_PAGES, PageStore, StoreRefusal, Tallies};
 
 // Two stores as one, with tallies of its own.
 #[derive(Drop)]
-pub struct SplicedStore<F, S> {
+pub struct SplicedStore<F: PageStore, S: PageStore> {
     first: F,
     second: S,
-    fetches: u32,
-    saves: u32,
+    tallies: Tallies,
+    pub ghost few: { length (F.PageStore.meaning first).bytes + length (S.PageStore.meaning second).bytes ≤ 512 },
 }
 
 impl<F: PageStore, S: PageStore> SplicedStore<F, S> {
     // Whether the two may be spliced: refused where their page counts sum above 512.
     pub fn check(first: &F, second: &S) -> Result<(), StoreRefusal>
-        requires { (F.PageStore.opened first.now) × (S.PageStore.opened second.now) }
         ensures { result ≡ may_splice (length (F.PageStore.meaning first.now).bytes) (length (S.PageStore.meaning second.now).bytes) }
     {
         if first.pages() + second.pages() > MOST_PAGES {
@@ -27,14 +27,14 @@ impl<F: PageStore, S: PageStore> SplicedStore<F, S> {
 
     // Splices two stores that `check` accepts. The tallies start at 0.
     pub fn make(first: F, second: S) -> SplicedStore<F, S>
-        requires { Joined (F.PageStore.opened first) (S.PageStore.opened second) (F.PageStore.meaning first) (S.PageStore.meaning second) }
-        ensures { result ≡ record { first = first; second = second; fetches = 0; saves = 0 } }
+        requires { length (F.PageStore.meaning first).bytes + length (S.PageStore.meaning second).bytes ≤ 512 }
+        ensures parts { (result.first ≡ first) × (result.second ≡ second) }
+        ensures tallies { result.tallies ≡ record { fetches = 0; saves = 0 } }
     {
         SplicedStore {
             first,
             second,
-            fetches: 0,
-            saves: 0,
+            tallies: Tallies::default(),
         }
     }
 
@@ -45,15 +45,13 @@ impl<F: PageStore, S: PageStore> SplicedStore<F, S> {
         let SplicedStore {
             first,
             second,
-            fetches: _,
-            saves: _,
+            tallies: _,
         } = self;
         (first, second)
     }
 
     // The number that a page has in the second store, or `None` for a page of the first.
     fn in_second(&self, page: usize) -> Option<usize>
-        requires { F.PageStore.opened self.now.first }
         ensures { result ≡ past_seam (length (F.PageStore.meaning self.now.first).bytes) page }
     {
         let below = self.first.pages();
@@ -66,28 +64,25 @@ impl<F: PageStore, S: PageStore> SplicedStore<F, S> {
 }
 
 impl<F: PageStore, S: PageStore> PageStore for SplicedStore<F, S> {
-    ghost meaning = { λ s. spliced (F.PageStore.meaning s.first) (S.PageStore.meaning s.second) s.fetches s.saves };
+    ghost meaning = { λ s. spliced (F.PageStore.meaning s.first) (S.PageStore.meaning s.second) s.tallies };
 
-    ghost opened = { λ s. Joined (F.PageStore.opened s.first) (S.PageStore.opened s.second) (F.PageStore.meaning s.first) (S.PageStore.meaning s.second) };
+    ghost sized = { λ s. sized_splice _ _ (F.PageStore.sized s.first) (S.PageStore.sized s.second) s.few };
 
     fn pages(&self) -> usize {
         self.first.pages() + self.second.pages()
     }
 
-    fn fetches(&self) -> u32 {
-        self.fetches
+    fn tallies(&self) -> Tallies {
+        self.tallies
     }
 
-    fn saves(&self) -> u32 {
-        self.saves
-    }
-
+    // Fetch and save are written out: the one lends its buffer to be written, the other to be read.
     fn fetch(&mut self, page: usize, buffer: &mut [u8]) -> Result<(), StoreRefusal> {
         match self.in_second(page) {
             None => self.first.fetch(page, buffer)?,
             Some(place) => self.second.fetch(place, buffer)?,
         }
-        self.fetches = self.fetches.wrapping_add(1);
+        self.tallies.note_fetch();
         Ok(())
     }
 
@@ -96,7 +91,7 @@ impl<F: PageStore, S: PageStore> PageStore for SplicedStore<F, S> {
             None => self.first.save(page, buffer)?,
             Some(place) => self.second.save(place, buffer)?,
         }
-        self.saves = self.saves.wrapping_add(1);
+        self.tallies.note_save();
         Ok(())
     }
 }

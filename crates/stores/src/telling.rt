@@ -1,10 +1,11 @@
-// What the program tells of a call, a store and a memory.
+// What the program tells of a call, a store and a memory. The handle that prints goes with each call, as in every program here.
 ghost use Rattle.std.specs.Prelude.{◌<◌, length};
 
-use std::io;
-use store::{PageStore, StoreRefusal};
+use std::{fmt, io};
+use store::{PageStore, StoreRefusal, Tallies};
 
 // Why the program stopped: a store refused what it should have accepted, or nothing more could be written.
+// It is no `anyhow::Error`, with which the program would print other words when it fails.
 #[derive(Debug, Drop)]
 pub(crate) enum Trouble {
     Refused(StoreRefusal),
@@ -23,13 +24,15 @@ impl From<io::Error> for Trouble {
     }
 }
 
-// An answer: accepted, or refused with its number.
-fn tell_result(rt: &HostRuntime, answer: Result<(), StoreRefusal>) -> io::Result<()> {
-    match answer {
-        Ok(()) => print!(rt; "accepted"),
-        Err(refusal) => {
-            let number = refusal.number();
-            print!(rt; "refused, {number}")
+// An answer, as it is told: accepted, or refused with its number.
+#[derive(Clone, Copy)]
+pub(crate) struct Answer(pub(crate) Result<(), StoreRefusal>);
+
+impl fmt::Display for Answer {
+    fn fmt<W: fmt::Write>(&self, f: &mut fmt::Formatter<W>) -> fmt::Result {
+        match self.0 {
+            Ok(()) => f.write_str("accepted"),
+            Err(refusal) => write!(f, "refused, {}", u32::from(refusal)),
         }
     }
 }
@@ -40,12 +43,12 @@ pub(crate) fn tell_answer(
     call: &str,
     answer: Result<(), StoreRefusal>,
 ) -> io::Result<()> {
-    print!(rt; "  {call}: ")?;
-    tell_result(rt, answer)?;
-    println!(rt; "")
+    let answer = Answer(answer);
+    println!(rt; "  {call}: {answer}")
 }
 
-// A fetch or a save with its answer, and the buffer after it.
+// A fetch or a save with its answer, and the buffer after it. Each buffer has a byte: first and last are told, and an
+// `Option` would be one thing more to tell.
 fn tell_transfer(
     rt: &HostRuntime,
     call: &str,
@@ -55,24 +58,21 @@ fn tell_transfer(
 ) -> io::Result<()>
     requires { 0 < length buffer.now }
 {
-    print!(rt; "  {call} page {page}: ")?;
-    tell_result(rt, answer)?;
+    let answer = Answer(answer);
     let length = buffer.len();
     let first = buffer[0];
     let last = buffer[length - 1];
-    println!(rt; "; the buffer is {length} bytes, {first} .. {last}")
+    println!(rt; "  {call} page {page}: {answer}; the buffer is {length} bytes, {first} .. {last}")
 }
 
-// Fetches a page, and tells the answer and the buffer.
+// Fetches a page, and tells the answer and the buffer. It is no twin of the next: its buffer is lent to be written.
 pub(crate) fn try_fetch<S: PageStore>(
     rt: &HostRuntime,
     store: &mut S,
     page: usize,
     buffer: &mut [u8],
 ) -> io::Result<()>
-    requires opened { S.PageStore.opened store.old }
-    requires some { 0 < length buffer.old }
-    ensures { S.PageStore.opened store.new }
+    requires { 0 < length buffer.old }
 {
     let answer = store.fetch(page, buffer);
     tell_transfer(rt, "fetch", page, buffer, answer)
@@ -85,21 +85,16 @@ pub(crate) fn try_save<S: PageStore>(
     page: usize,
     buffer: &[u8],
 ) -> io::Result<()>
-    requires opened { S.PageStore.opened store.old }
-    requires some { 0 < length buffer.now }
-    ensures { S.PageStore.opened store.new }
+    requires { 0 < length buffer.now }
 {
     let answer = store.save(page, buffer);
     tell_transfer(rt, "save", page, buffer, answer)
 }
 
 // The questions that a store answers.
-pub(crate) fn tell_store<S: PageStore>(rt: &HostRuntime, name: &str, store: &S) -> io::Result<()>
-    requires { S.PageStore.opened store.now }
-{
+pub(crate) fn tell_store<S: PageStore>(rt: &HostRuntime, name: &str, store: &S) -> io::Result<()> {
     let pages = store.pages();
-    let fetches = store.fetches();
-    let saves = store.saves();
+    let Tallies { fetches, saves } = store.tallies();
     println!(rt; "  {name}: {pages} pages, {fetches} fetches, {saves} saves")
 }
 

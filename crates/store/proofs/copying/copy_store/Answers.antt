@@ -1,21 +1,6 @@
 use Rattle.std.proofs.Common.{◌≡◌, ◌<◌, length, arith}
-use Rattle.store.proofs.Copies.{halfway_there, halfway_here, halfway_long, halfway_more, halfway_all}
+use Rattle.store.proofs.Copies.{halfway_more, halfway_all}
 use Rattle.store.proofs.copying.copy_store.Goals as goal
-
-pub carry-requires : goal.carry-requires
-carry-requires g c =
-    let a = g.F.PageStore.meaning c.args.from.now in
-    let b = g.T.PageStore.meaning c.args.to.now in
-    let same : length a.bytes ≡ length b.bytes = omega arith in
-    let lt : c.loop-page.page < length a.bytes = omega arith in
-    let w = c.loop-page.invariant.2 in
-    record {
-      from = c.loop-page.invariant.0;
-      to = c.loop-page.invariant.1;
-      there = halfway_there a b _ _ _ w same lt;
-      here = halfway_here a b _ _ _ w same lt;
-      long = halfway_long a b _ _ _ w same c.pages-pages.ensures.sized lt;
-    }
 
 pub loop-page-preserved : goal.loop-page-preserved
 loop-page-preserved g c =
@@ -24,7 +9,7 @@ loop-page-preserved g c =
     let same : length a.bytes ≡ length b.bytes = omega arith in
     let lt : c.loop-page.page < length a.bytes = omega arith in
     let told = c.in_ok-carry.ensures in
-    (told.from, told.to, halfway_more a b _ _ _ c.loop-page.invariant.2 same _ _ lt told.read told.written)
+    halfway_more a b _ _ _ c.loop-page.invariant same _ _ lt told.read told.written
 
 pub returns : goal.returns
 returns g c =
@@ -32,8 +17,4 @@ returns g c =
     let b = g.T.PageStore.meaning c.args.to.now in
     let same : length a.bytes ≡ length b.bytes = omega arith in
     let all : c.loop-page.page ≡ length a.bytes = omega arith in
-    record {
-      from = c.loop-page.invariant.0;
-      to = c.loop-page.invariant.1;
-      effect = halfway_all a b _ _ _ c.loop-page.invariant.2 same (omega (arith, c.pages-pages.ensures.sized.some)) all;
-    }
+    halfway_all a b _ _ _ c.loop-page.invariant same (omega (arith, g.met.F.PageStore.sized c.args.from.now)) all
