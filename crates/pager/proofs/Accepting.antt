@@ -1,99 +1,148 @@
 -- A pager as a store: what an accepted and a refused call do to its meaning.
+use mathlib.Core.Logic.{∥∥₁_elim, ∥∥₁_map}
 use Rattle.std.proofs.Common.{◌≡◌, ℕ, ◌<◌, List, [], length, get_or, set, Ok, Err, sym, refl, ap, ◌∙◌, inl, inr, arith}
+use Rattle.std.proofs.lemmas.List.FromFn.{length-map-range_with_len}
 use Rattle.lists.proofs.Weights.{eqb_cases}
 use Rattle.store.specs.declared.StoreRefusal.{StoreRefusal}
-use Rattle.store.specs.Meaning.{Meaning, counted}
+use Rattle.store.specs.declared.tallies.Tallies.{Tallies}
+use Rattle.store.specs.Meaning.{Meaning}
+use Rattle.store.specs.Counting.{one_fetch, one_save}
 use Rattle.store.specs.Sized.{Sized}
 use Rattle.store.specs.Uses.{may_use, Fetched, Saved}
 use Rattle.store.proofs.Calls.{accepted_length, accepted_page}
 use Rattle.model.specs.Order.{Rule}
-use Rattle.model.specs.Bytes.{paged_read, paged_write, writes, book_step}
+use Rattle.model.specs.Bytes.{Paged, paged_read, paged_write, writes, book_step}
 use Rattle.model.proofs.Bytes.{kept_read, kept_write}
-use Rattle.pager.specs.declared.state.Pager.{Pager}
+use Rattle.pager.specs.declared.works.Works.{Works}
+use Rattle.std.proofs.Props.{props}
+use Rattle.pager.specs.declared.frame.Frame.{Frame}
 use Rattle.pager.specs.Frames.{at, In}
-use Rattle.pager.specs.Settings.{pages_of}
+use Rattle.pager.specs.Settings.{Setting, pages_of}
 use Rattle.pager.specs.Shows.{frames_of, Shows}
-use Rattle.pager.specs.Book.{pager_meaning}
+use Rattle.pager.specs.Book.{bytes_of, book_of, pager_meaning}
 use Rattle.pager.specs.Ready.{Ready}
 use Rattle.pager.proofs.Holders.{in_order}
-use Rattle.pager.proofs.Booking.{pages_by, pages_length, page_at, book_is, book_write}
+use Rattle.pager.proofs.Touching.{rule_below}
+use Rattle.pager.proofs.Booking.{pages_by, page_at, book_is, book_write}
 
--- Meanings are equal part by part.
-pub same_meaning : (a b : List (List ℕ)) (f f' s s' : ℕ) → a ≡ b → f ≡ f' → s ≡ s' → ◌≡◌ {A = Meaning} (record { bytes = a; fetches = f; saves = s }) (record { bytes = b; fetches = f'; saves = s' })
-same_meaning a b f f' s s' e h k =
-    ap (λ x. record { bytes = x; fetches = f; saves = s }) e ∙ (ap (λ x. record { bytes = b; fetches = x; saves = s }) h ∙ ap (λ x. record { bytes = b; fetches = f'; saves = x }) k)
+-- Of each of these facts there is one proof at most.
+pub sized_prop : (a : List (List ℕ)) → IsProp (Sized a)
+sized_prop a = hlevel props
 
-module _ {S R : Type 0} (opened : S → Type 0) (meaning : S → Meaning) (told : R → ℕ) (P : Pager S R) (ready : Ready opened meaning told P) where
-  pub bytes_are : (pager_meaning meaning P).bytes ≡ pages_by ready.book (pages_of ready.setting)
+pub books_set : (a b : List (List ℕ)) → IsProp (a ≡ b)
+books_set a b = hlevel props
+
+pub bytes_set : (a b : List ℕ) → IsProp (a ≡ b)
+bytes_set a b = hlevel props
+
+pub never_prop : IsProp ⊥
+never_prop = hlevel props
+
+pub in_prop : (t : List Frame) (q i : ℕ) → IsProp (In t q i)
+in_prop t q i = hlevel props
+
+-- The book has a page for each of the store below.
+pub count_is : {S R : Type 0} (meaning : S → Meaning) (P : Works S R) → length (book_of meaning P) ≡ length (meaning P.below).bytes
+count_is meaning P = length-map-range_with_len (λ q. bytes_of (frames_of P) q (get_or (meaning P.below).bytes q [])) 0 (length (meaning P.below).bytes)
+
+module _ {S R : Type 0} (meaning : S → Meaning) (told : R → ℕ) (P : Works S R) (ready : Ready meaning told P) where
+  pub bytes_are : book_of meaning P ≡ pages_by ready.book (pages_of ready.setting)
   bytes_are = book_is told meaning ready.setting P ready.model ready.book ready.shows ready.kept
 
-  pub count_is : length (pager_meaning meaning P).bytes ≡ P.pages
-  count_is = ap length bytes_are ∙ (pages_length ready.book (pages_of ready.setting) ∙ sym ready.shows.pages_are)
-
-  pub pager_sized : Sized (pager_meaning meaning P).bytes
-  pager_sized = record {
-    some = omega (arith, count_is, ready.shows.pages_are, ready.sized.some);
-    few = omega (arith, count_is, ready.shows.pages_are, ready.sized.few);
-    even = λ q h. let low : q < pages_of ready.setting = omega (arith, count_is, ready.shows.pages_are) in ap (λ xs. length (get_or xs q [])) bytes_are ∙ (ap length (page_at ready.book (pages_of ready.setting) q low) ∙ ready.long q low);
+  sized_ready : Sized (book_of meaning P)
+  sized_ready = record {
+    some = omega (arith, count_is meaning P, ready.shows.store.pages_are, ready.sized.some);
+    few = omega (arith, count_is meaning P, ready.shows.store.pages_are, ready.sized.few);
+    even = λ q h. let low : q < pages_of ready.setting = omega (arith, count_is meaning P, ready.shows.store.pages_are) in ap (λ xs. length (get_or xs q [])) bytes_are ∙ (ap length (page_at ready.book (pages_of ready.setting) q low) ∙ ready.long q low);
   }
 
-  module _ (page : ℕ) (b : List ℕ) where
-    pub refused_read : (e : StoreRefusal) → Err e ≡ may_use P.pages page (length b) → Fetched (pager_meaning meaning P) page b (Err e) (pager_meaning meaning P) b
-    refused_read e h = record { answered = h ∙ ap (λ n. may_use n page (length b)) (sym count_is); effect = (refl, refl) }
+  -- A call that is accepted, and the pager Q then.
+  module _ (page : ℕ) (low : page < pages_of ready.setting) (Q : Works S R) (r : Rule) (slots : (state : ℕ) → r.slot state ready.setting.slots < ready.setting.slots) where
+    module _ (shows : Shows told meaning ready.setting Q (paged_read r ready.setting.slots ready.setting.bottom page ready.model)) where
+      read_ready : Ready meaning told Q
+      read_ready = record {
+        setting = ready.setting;
+        model = paged_read r ready.setting.slots ready.setting.bottom page ready.model;
+        book = ready.book;
+        sized = ready.sized;
+        shows = shows;
+        kept = kept_read r (pages_of ready.setting) ready.setting.slots ready.setting.bottom page slots low ready.model ready.book ready.kept;
+        long = ready.long;
+      }
 
-    pub refused_write : (e : StoreRefusal) → Err e ≡ may_use P.pages page (length b) → Saved (pager_meaning meaning P) page b (Err e) (pager_meaning meaning P)
-    refused_write e h = record { answered = h ∙ ap (λ n. may_use n page (length b)) (sym count_is); effect = refl }
+      read_keeps : book_of meaning Q ≡ book_of meaning P
+      unfolding read_ready
+      read_keeps = book_is told meaning ready.setting Q read_ready.model ready.book shows read_ready.kept ∙ sym bytes_are
+
+      read_gives : (i : ℕ) → In (frames_of Q) page i → (at (frames_of Q) i).bytes ≡ get_or (book_of meaning P) page []
+      unfolding read_ready
+      read_gives i here = shows.frames.bytes_are page i here ∙ (read_ready.kept.framed page (in_order told Q.table.parts (frames_of Q) read_ready.model.pager.order shows.frames.order_is page i here)
+          ∙ (sym (page_at ready.book (pages_of ready.setting) page low) ∙ sym (ap (λ xs. get_or xs page []) bytes_are)))
+
+    module _ (b : List ℕ) (long : length b ≡ 64) (shows : Shows told meaning ready.setting Q (paged_write r ready.setting.slots ready.setting.bottom page b ready.model)) where
+      write_ready : Ready meaning told Q
+      write_ready = record {
+        setting = ready.setting;
+        model = paged_write r ready.setting.slots ready.setting.bottom page b ready.model;
+        book = book_step ready.book (writes page b);
+        sized = ready.sized;
+        shows = shows;
+        kept = kept_write r (pages_of ready.setting) ready.setting.slots ready.setting.bottom page slots low ready.model ready.book ready.kept b;
+        long = λ q h. elim (eqb_cases q page) [
+          | inl e ↦ rw e.1 long
+          | inr n ↦ rw n.1 (ready.long q h)
+        ];
+      }
+
+      write_keeps : book_of meaning Q ≡ set (book_of meaning P) page b
+      unfolding write_ready
+      write_keeps = book_is told meaning ready.setting Q write_ready.model (book_step ready.book (writes page b)) shows write_ready.kept ∙ (book_write ready.book (pages_of ready.setting) page b ∙ ap (λ xs. set xs page b) (sym bytes_are))
+
+-- The same of a pager that is ready.
+module _ {S R : Type 0} (meaning : S → Meaning) (told : R → ℕ) (P : Works S R) (ready : ∥ Ready meaning told P ∥₁) where
+  pub pager_sized : Sized (book_of meaning P)
+  pager_sized = ∥∥₁_elim ready (sized_prop _) (λ y. sized_ready meaning told P y)
+
+  module _ (t : Tallies) (page : ℕ) (b : List ℕ) where
+    pub refused_read : (e : StoreRefusal) → Err e ≡ may_use (length (meaning P.below).bytes) page (length b) → Fetched (pager_meaning meaning P t) page b (Err e) (pager_meaning meaning P t) b
+    refused_read e h = record { answered = h ∙ ap (λ n. may_use n page (length b)) (sym (count_is meaning P)); effect = (refl, refl) }
+
+    pub refused_write : (e : StoreRefusal) → Err e ≡ may_use (length (meaning P.below).bytes) page (length b) → Saved (pager_meaning meaning P t) page b (Err e) (pager_meaning meaning P t)
+    refused_write e h = record { answered = h ∙ ap (λ n. may_use n page (length b)) (sym (count_is meaning P)); effect = refl }
 
     -- The call is accepted, and the pager is Q then.
-    module _ (Q : Pager S R) (r : Rule) (slots : (state : ℕ) → r.slot state ready.setting.slots < ready.setting.slots) (ok : Ok tt ≡ may_use P.pages page (length b)) (open' : opened Q.below) where
-      low : page < pages_of ready.setting
-      low = omega (arith, accepted_page P.pages page (length b) ok, ready.shows.pages_are)
+    module _ (Q : Works S R) (r : Rule) (below : (state k : ℕ) → 0 < k → r.slot state k < k) (ok : Ok tt ≡ may_use (length (meaning P.below).bytes) page (length b)) where
+      answer : Ok tt ≡ may_use (length (book_of meaning P)) page (length b)
+      answer = ok ∙ ap (λ n. may_use n page (length b)) (sym (count_is meaning P))
 
-      answer : Ok tt ≡ may_use (length (pager_meaning meaning P).bytes) page (length b)
-      answer = ok ∙ ap (λ n. may_use n page (length b)) (sym count_is)
+      low : (y : Ready meaning told P) → page < pages_of y.setting
+      low y = omega (arith, accepted_page (length (meaning P.below).bytes) page (length b) ok, y.shows.store.pages_are)
 
-      module _ (shows : Shows told meaning ready.setting Q (paged_read r ready.setting.slots ready.setting.bottom page ready.model)) where
-        pub read_ready : Ready opened meaning told Q
-        read_ready = record {
-          setting = ready.setting;
-          model = paged_read r ready.setting.slots ready.setting.bottom page ready.model;
-          book = ready.book;
-          store = open';
-          sized = ready.sized;
-          shows = shows;
-          kept = kept_read r (pages_of ready.setting) ready.setting.slots ready.setting.bottom page slots low ready.model ready.book ready.kept;
-          long = ready.long;
-        }
+      slots : (y : Ready meaning told P) (state : ℕ) → r.slot state y.setting.slots < y.setting.slots
+      slots y = rule_below told r y.setting P.table.parts (frames_of P) y.model y.shows.frames below
 
-        pub read_effect : (i : ℕ) (b2 : List ℕ) → In (frames_of Q) page i → b2 ≡ (at (frames_of Q) i).bytes → Q.fetches ≡ counted P.fetches → Q.saves ≡ P.saves → Fetched (pager_meaning meaning P) page b (Ok tt) (pager_meaning meaning Q) b2
-        unfolding read_ready
-        read_effect i b2 here is fetches saves = record {
+      module _ (shows : (s : Setting) (w : Paged) → Shows told meaning s P w → Shows told meaning s Q (paged_read r s.slots s.bottom page w)) where
+        pub read_stays : ∥ Ready meaning told Q ∥₁
+        read_stays = ∥∥₁_map ready (λ y. read_ready meaning told P y page (low y) Q r (slots y) (shows y.setting y.model y.shows))
+
+        pub read_effect : (i : ℕ) (b2 : List ℕ) → In (frames_of Q) page i → b2 ≡ (at (frames_of Q) i).bytes → Fetched (pager_meaning meaning P t) page b (Ok tt) (pager_meaning meaning Q (one_fetch t)) b2
+        read_effect i b2 here is = record {
           answered = answer;
           effect = (
-            same_meaning _ _ _ _ _ _ (book_is told meaning ready.setting Q read_ready.model ready.book shows read_ready.kept ∙ sym bytes_are) fetches saves,
-            is ∙ (shows.frames.bytes_are page i here ∙ (read_ready.kept.framed page (in_order told Q.table.parts (frames_of Q) read_ready.model.pager.order shows.frames.order_is page i here) ∙ (sym (page_at ready.book (pages_of ready.setting) page low) ∙ sym (ap (λ xs. get_or xs page []) bytes_are)))),
+            ap (λ xs. record { bytes = xs; tallies = one_fetch t }) (∥∥₁_elim ready (books_set _ _) (λ y. read_keeps meaning told P y page (low y) Q r (slots y) (shows y.setting y.model y.shows))),
+            is ∙ ∥∥₁_elim ready (bytes_set _ _) (λ y. read_gives meaning told P y page (low y) Q r (slots y) (shows y.setting y.model y.shows) i here),
           );
         }
 
-      module _ (shows : Shows told meaning ready.setting Q (paged_write r ready.setting.slots ready.setting.bottom page b ready.model)) where
-        pub write_ready : Ready opened meaning told Q
-        write_ready = record {
-          setting = ready.setting;
-          model = paged_write r ready.setting.slots ready.setting.bottom page b ready.model;
-          book = book_step ready.book (writes page b);
-          store = open';
-          sized = ready.sized;
-          shows = shows;
-          kept = kept_write r (pages_of ready.setting) ready.setting.slots ready.setting.bottom page slots low ready.model ready.book ready.kept b;
-          long = λ q h. elim (eqb_cases q page) [
-            | inl e ↦ rw e.1 (accepted_length P.pages page (length b) ok)
-            | inr n ↦ rw n.1 (ready.long q h)
-          ];
-        }
+      module _ (shows : (s : Setting) (w : Paged) → Shows told meaning s P w → Shows told meaning s Q (paged_write r s.slots s.bottom page b w)) where
+        long : length b ≡ 64
+        long = accepted_length (length (meaning P.below).bytes) page (length b) ok
 
-        pub write_effect : Q.fetches ≡ P.fetches → Q.saves ≡ counted P.saves → Saved (pager_meaning meaning P) page b (Ok tt) (pager_meaning meaning Q)
-        unfolding write_ready
-        write_effect fetches saves = record {
+        pub write_stays : ∥ Ready meaning told Q ∥₁
+        write_stays = ∥∥₁_map ready (λ y. write_ready meaning told P y page (low y) Q r (slots y) b long (shows y.setting y.model y.shows))
+
+        pub write_effect : Saved (pager_meaning meaning P t) page b (Ok tt) (pager_meaning meaning Q (one_save t))
+        write_effect = record {
           answered = answer;
-          effect = same_meaning _ _ _ _ _ _ (book_is told meaning ready.setting Q write_ready.model (book_step ready.book (writes page b)) shows write_ready.kept ∙ (book_write ready.book (pages_of ready.setting) page b ∙ ap (λ xs. set xs page b) (sym bytes_are))) fetches saves;
+          effect = ap (λ xs. record { bytes = xs; tallies = one_save t }) (∥∥₁_elim ready (books_set _ _) (λ y. write_keeps meaning told P y page (low y) Q r (slots y) b long (shows y.setting y.model y.shows)));
         }

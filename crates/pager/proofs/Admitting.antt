@@ -5,7 +5,7 @@ use Rattle.links.specs.declared.Part.TheVariants.{Unused}
 use Rattle.model.specs.Order.{Rule, used}
 use Rattle.model.specs.Pager.{cut, frames, evicted}
 use Rattle.model.specs.Bytes.{Paged}
-use Rattle.pager.specs.declared.state.Pager.{Pager}
+use Rattle.pager.specs.declared.works.Works.{Works}
 use Rattle.pager.specs.Frames.{at, page_in, contents, taken, In, Absent, Apart, flushed}
 use Rattle.pager.specs.Framed.{Framed}
 use Rattle.pager.specs.Vacant.{Vacant, Taken}
@@ -20,13 +20,13 @@ use Rattle.pager.proofs.Using.{use_new, store_kept, store_saved}
 use Rattle.pager.proofs.Touching.{framed_low, room_as, sound_as, counts_fault, counts_evicting}
 
 -- A pager P shows a model in which page p has no frame.
-module _ {S R : Type 0} (told : R → ℕ) (meaning : S → Meaning) (r : Rule) (s : Setting) (P : Pager S R) (w : Paged) (p : ℕ) (sh : Shows told meaning s P w) (slots : (state : ℕ) → r.slot state s.slots < s.slots)
+module _ {S R : Type 0} (told : R → ℕ) (meaning : S → Meaning) (r : Rule) (s : Setting) (P : Works S R) (w : Paged) (p : ℕ) (sh : Shows told meaning s P w) (slots : (state : ℕ) → r.slot state s.slots < s.slots)
     (low : p < pages_of s) (none : Absent (frames_of P) p) where
   gone : frames p w.pager.order ≡ 0
   gone = none_in told P.table.parts (frames_of P) w.pager.order sh.frames.order_is p none
 
   -- A frame was free.
-  module _ (i : ℕ) (within : i < length (frames_of P)) (idle : (at (frames_of P) i).part ≡ Unused) where
+  module _ (i : ℕ) (within : i < length (frames_of P)) (idle : (at (frames_of P) i).links.part ≡ Unused) where
     free : Vacant told r s.slots s.bottom (frames_of P) w.pager.order p i P.table.parts (frames_of P)
     free = subst (λ k. Vacant told r k s.bottom (frames_of P) w.pager.order p i P.table.parts (frames_of P)) sh.frames.slots_are
         (vacant_free told r (pages_of s) s.bottom p P.table.parts (frames_of P) w.pager.order sh.frames.order_is (sound_as told s P.table.parts (frames_of P) w sh.frames)
@@ -46,7 +46,7 @@ module _ {S R : Type 0} (told : R → ℕ) (meaning : S → Meaning) (r : Rule) 
     }
 
   -- The page of a frame was driven out.
-  module _ (Q : Pager S R) (i : ℕ) (held : In (frames_of P) (page_in (frames_of P) i) i) (vacant : Vacant told r s.slots s.bottom (frames_of P) w.pager.order p i Q.table.parts (frames_of Q)) where
+  module _ (Q : Works S R) (i : ℕ) (held : In (frames_of P) (page_in (frames_of P) i) i) (vacant : Vacant told r s.slots s.bottom (frames_of P) w.pager.order p i Q.table.parts (frames_of Q)) where
     out : evicted r s.slots s.bottom p w.pager.order ≡ page_in (frames_of P) i ∷ []
     out = vacant.drives ∙ ap (λ x. cond x (page_in (frames_of P) i ∷ []) []) held.held
 
@@ -64,7 +64,7 @@ module _ {S R : Type 0} (told : R → ℕ) (meaning : S → Meaning) (r : Rule) 
     }
 
   -- The frame took the page.
-  module _ (Q Z : Pager S R) (i : ℕ) (room : Roomy told meaning r s P Q w p i) (same-slots : Z.table.parts.slots ≡ Q.table.parts.slots) (long : length (frames_of Z) ≡ length (frames_of Q)) (apart : Apart (frames_of Z))
+  module _ (Q Z : Works S R) (i : ℕ) (room : Roomy told meaning r s P Q w p i) (same-slots : Z.table.parts.slots ≡ Q.table.parts.slots) (long : length (frames_of Z) ≡ length (frames_of Q)) (apart : Apart (frames_of Z))
       (takes : Taken told r Q.table.parts.slots (frames_of Q) room.vacant.between i p Z.table.parts (frames_of Z)) where
     shown : Framed told Z.table.parts (frames_of Z) (cut s.bottom (used r s.slots p w.pager.order))
     shown = subst (λ o. Framed told Z.table.parts (frames_of Z) o) room.vacant.leads (subst (λ k. Framed told Z.table.parts (frames_of Z) (used r k p room.vacant.between)) (room.slots ∙ sh.frames.slots_are) takes.shows)
@@ -73,9 +73,8 @@ module _ {S R : Type 0} (told : R → ℕ) (meaning : S → Meaning) (r : Rule) 
     frames_after = use_new told r s P.table.parts Z.table.parts (frames_of P) (frames_of Z) w p i sh.frames slots low (same-slots ∙ room.slots) (long ∙ room.long) apart takes.here shown
         (λ q j ne h. let m = takes.others q j ne h in (room.vacant.before q j m.1, m.2 ∙ room.others j m.0)) takes.clean none
 
-    pub admit_shows : Z.pages ≡ P.pages → Z.below ≡ Q.below → Z.counts ≡ faulted Q.counts → Shows told meaning s Z (touched r s.slots s.bottom p (at (frames_of Z) i).bytes w)
-    admit_shows pages below counts = record {
-      pages_are = pages ∙ sh.pages_are;
+    pub admit_shows : Z.below ≡ Q.below → Z.counts ≡ faulted Q.counts → Shows told meaning s Z (touched r s.slots s.bottom p (at (frames_of Z) i).bytes w)
+    admit_shows below counts = record {
       frames = frames_after;
       store = rw below (room.store (at (frames_of Z) i).bytes);
       counts = rw counts (room.counts (at (frames_of Z) i).bytes);

@@ -9,7 +9,7 @@ use Rattle.store.specs.Meaning.{Meaning}
 use Rattle.model.specs.Bytes.{Paged, book_step, writes}
 use Rattle.model.specs.Kept.{Kept}
 use Rattle.pager.specs.declared.frame.Frame.{Frame}
-use Rattle.pager.specs.declared.state.Pager.{Pager}
+use Rattle.pager.specs.declared.works.Works.{Works}
 use Rattle.pager.specs.Frames.{at, taken, In, Absent}
 use Rattle.pager.specs.Settings.{Setting, pages_of}
 use Rattle.pager.specs.Shows.{frames_of, Shows}
@@ -20,7 +20,7 @@ use Rattle.pager.proofs.Holders.{in_order}
 Found : List Frame → ℕ → List ℕ → Type 0
 Found t q d = ((i : ℕ) × In t q i × (bytes_of t q d ≡ (at t i).bytes)) ⊎ (Absent t q × (bytes_of t q d ≡ d))
 
-further : (f : Frame) (t : List Frame) (q : ℕ) (d : List ℕ) → (taken f.part && eqb f.page q) ≡ false → Found t q d → Found (f ∷ t) q d
+further : (f : Frame) (t : List Frame) (q : ℕ) (d : List ℕ) → (taken f.links.part && eqb f.page q) ≡ false → Found t q d → Found (f ∷ t) q d
 unfolding Found
 further f t q d n (inl w) = inl (suc w.0, record { within = omega (arith, w.1.within); held = w.1.held; here = w.1.here }, rw n w.2)
 further f t q d n (inr w) = inr (none, rw n w.1) where
@@ -31,8 +31,8 @@ further f t q d n (inr w) = inr (none, rw n w.1) where
 found : (t : List Frame) (q : ℕ) (d : List ℕ) → Found t q d
 unfolding Found
 found [] q d = inr ((λ i h. omega (arith, h.within)), refl)
-found (f ∷ t) q d = elim (cases_Bool (taken f.part && eqb f.page q)) [
-  | inl y ↦ let a = and_parts (taken f.part) (eqb f.page q) y in inl (0, record { within = omega arith; held = a.0; here = page a.1 }, rw y refl)
+found (f ∷ t) q d = elim (cases_Bool (taken f.links.part && eqb f.page q)) [
+  | inl y ↦ let a = and_parts (taken f.links.part) (eqb f.page q) y in inl (0, record { within = omega arith; held = a.0; here = page a.1 }, rw y refl)
   | inr n ↦ further f t q d n (found t q d)
 ] where
   page : eqb f.page q ≡ true → f.page ≡ q
@@ -48,7 +48,7 @@ pages_length book n = length-map-range_with_len book 0 n
 pub page_at : (book : ℕ → List ℕ) (n q : ℕ) → q < n → get_or (pages_by book n) q [] ≡ book q
 page_at book n q h = get_or-map-range_with_len book 0 n q q [] h (omega arith)
 
-module _ {S R : Type 0} (told : R → ℕ) (meaning : S → Meaning) (s : Setting) (P : Pager S R) (w : Paged) (book : ℕ → List ℕ) (sh : Shows told meaning s P w) (kept : Kept (pages_of s) s.slots w book) where
+module _ {S R : Type 0} (told : R → ℕ) (meaning : S → Meaning) (s : Setting) (P : Works S R) (w : Paged) (book : ℕ → List ℕ) (sh : Shows told meaning s P w) (kept : Kept (pages_of s) s.slots w book) where
   each : (q : ℕ) → q < pages_of s → bytes_of (frames_of P) q (get_or (meaning P.below).bytes q []) ≡ book q
   unfolding Found
   each q low = elim (found (frames_of P) q (get_or (meaning P.below).bytes q [])) [

@@ -37,7 +37,7 @@ module _ {X : Type 0} (c : TwoParts X) (t : List Frame) (o : Order) (a : Arrange
   seats_fit = omega (arith, seats_long, pigeons (length t) (o.top ++ o.bottom) (λ q. omega (arith, both_once q, one_most (ltb q (length t)))) both_low)
 
   -- Where a frame is not seated, fewer are.
-  pub seats_left : (i : ℕ) → i < length t → (at t i).part ≡ Unused → length o.top + length o.bottom + 1 ≤ length t
+  pub seats_left : (i : ℕ) → i < length t → (at t i).links.part ≡ Unused → length o.top + length o.bottom + 1 ≤ length t
   seats_left i low idle = omega (arith, seats_long, pigeons (length t) (i ∷ (o.top ++ o.bottom)) each (λ q h. rw (ne_eqb i q (λ e. omega (arith, e))) (omega (arith, both_low q h)))) where
     away : occ i (o.top ++ o.bottom) ≡ 0
     away = elim (cases_lt 0 (occ i o.top + occ i o.bottom)) [
@@ -52,13 +52,13 @@ module _ {X : Type 0} (c : TwoParts X) (t : List Frame) (o : Order) (a : Arrange
     ]
 
   -- Where every frame holds a page, all are seated.
-  pub seats_all : ((i : ℕ) → i < length t → taken (at t i).part ≡ true) → length o.top + length o.bottom ≡ length t
+  pub seats_all : ((i : ℕ) → i < length t → taken (at t i).links.part ≡ true) → length o.top + length o.bottom ≡ length t
   seats_all h = sym seats_long ∙ crowded (length t) (o.top ++ o.bottom) each both_low where
     each : (q : ℕ) → q < length t → occ q (o.top ++ o.bottom) ≡ 1
     each q low = omega (arith, taken_seated c t o a q low (h q low), weigh-append (λ x. one (eqb x q)) o.top o.bottom, rw (lt-ltb q (length t) low) at (both_once q))
 
   -- The part of a frame tells where it is seated.
-  pub in_top : (i : ℕ) → i < length t → (at t i).part ≡ Top → 0 < occ i o.top
+  pub in_top : (i : ℕ) → i < length t → (at t i).links.part ≡ Top → 0 < occ i o.top
   in_top i low e = elim (ltb_cases 0 (occ i o.top)) [
     | inl y ↦ y.0
     | inr n ↦ elim (ltb_cases 0 (occ i o.bottom)) [
@@ -67,7 +67,7 @@ module _ {X : Type 0} (c : TwoParts X) (t : List Frame) (o : Order) (a : Arrange
     ]
   ]
 
-  pub in_bottom : (i : ℕ) → i < length t → (at t i).part ≡ Bottom → (occ i o.top ≡ 0) × (0 < occ i o.bottom)
+  pub in_bottom : (i : ℕ) → i < length t → (at t i).links.part ≡ Bottom → (occ i o.top ≡ 0) × (0 < occ i o.bottom)
   in_bottom i low e = elim (ltb_cases 0 (occ i o.top)) [
     | inl y ↦ let z : ◌≡◌ {A = ℕ} 0 1 = cc (rw y.1 at (sym (part_is c t o a i low) ∙ e)) in absurd (omega arith)
     | inr n ↦ elim (ltb_cases 0 (occ i o.bottom)) [
@@ -78,12 +78,6 @@ module _ {X : Type 0} (c : TwoParts X) (t : List Frame) (o : Order) (a : Arrange
 
 -- The table shows an order of pages.
 module _ {X : Type 0} (told : X → ℕ) (c : TwoParts X) (t : List Frame) (o : Order) (f : Framed told c t o) where
-  abbrev top_of : List ℕ
-  top_of = f.seats.top
-
-  abbrev bottom_of : List ℕ
-  bottom_of = f.seats.bottom
-
   arranged : Arranged c (seats_of t) f.seats
   arranged = f.stands.arranged
 
@@ -122,10 +116,10 @@ module _ {X : Type 0} (told : X → ℕ) (c : TwoParts X) (t : List Frame) (o : 
   alone a q i h j k = a q j i (record { within = k.within; held = k.held; here = k.here ∙ h.here }) h
 
   -- The part of a page's frame tells where the page is.
-  pub page_in_top : (q i : ℕ) → In t q i → (at t i).part ≡ Top → has q o.top ≡ true
+  pub page_in_top : (q i : ℕ) → In t q i → (at t i).links.part ≡ Top → has q o.top ≡ true
   page_in_top q i h e = lt-ltb 0 (occ q o.top) (rw (top_named, ← h.here) (omega (arith, in_top c t f.seats arranged i h.within e, occ-named (page_in t) i f.seats.top)))
 
-  pub page_in_bottom : Apart t → (q i : ℕ) → In t q i → (at t i).part ≡ Bottom → (has q o.top ≡ false) × (has q o.bottom ≡ true)
+  pub page_in_bottom : Apart t → (q i : ℕ) → In t q i → (at t i).links.part ≡ Bottom → (has q o.top ≡ false) × (has q o.bottom ≡ true)
   page_in_bottom a q i h e =
       let w = in_bottom c t f.seats arranged i h.within e in (
         le-ltb 0 (occ q o.top) (rw (top_named, ← h.here) (omega (arith, w.0, occ_renamed (page_in t) i f.seats.top (tells_top c t f.seats arranged i (alone a q i h))))),

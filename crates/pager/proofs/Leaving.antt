@@ -119,8 +119,8 @@ module _ {X : Type 0} (told : X → ℕ) (c c' : TwoParts X) (t u ws t' : List F
         | inr n ↦ omega (arith, rw n.1 at (a.sound.once i))
       ]
 
-      idle : (at t' i).part ≡ Unused
-      idle = sym (get_or-map (λ (x : Frame). x.part) t' i blank Unused low) ∙ (a'.parts_are i low
+      idle : (at t' i).links.part ≡ Unused
+      idle = sym (get_or-map (λ (x : Frame). x.links.part) t' i blank Unused low) ∙ (a'.parts_are i low
           ∙ rw (le-ltb 0 (occ i f.seats.top) (omega (arith, once, counted)), le-ltb 0 (occ i (without_last f.seats).bottom) (omega (arith, once, counted))) refl) where
             low : i < length t'
             low = omega (arith, seated_low c t f.seats a i there, same_length t t' leave_same)

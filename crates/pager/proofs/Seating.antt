@@ -37,19 +37,19 @@ same_length t u e = sym (length-map u contents) ∙ (ap length e ∙ length-map 
 
 -- A frame holds a page exactly if it is seated.
 module _ {X : Type 0} (c : TwoParts X) (t : List Frame) (o : Order) (a : Arranged c (seats_of t) o) where
-  pub part_is : (j : ℕ) → j < length t → (at t j).part ≡ part_of o j
-  part_is j low = sym (get_or-map (λ (f : Frame). f.part) t j blank Unused low) ∙ a.parts_are j low
+  pub part_is : (j : ℕ) → j < length t → (at t j).links.part ≡ part_of o j
+  part_is j low = sym (get_or-map (λ (f : Frame). f.links.part) t j blank Unused low) ∙ a.parts_are j low
 
   pub seated_low : (j : ℕ) → 0 < occ j o.top + occ j o.bottom → j < length t
   seated_low j h = elim (cases_lt j (length t)) [ inl y ↦ y | inr m ↦ absurd (omega (arith, rw (le-ltb j (length t) m) at (a.sound.once j))) ]
 
-  pub seated_taken : (j : ℕ) → 0 < occ j o.top + occ j o.bottom → taken (at t j).part ≡ true
+  pub seated_taken : (j : ℕ) → 0 < occ j o.top + occ j o.bottom → taken (at t j).links.part ≡ true
   seated_taken j h = ap taken (part_is j (seated_low j h)) ∙ elim (ltb_cases 0 (occ j o.top)) [
     | inl y ↦ rw y.1 refl
     | inr n ↦ rw (n.1, lt-ltb 0 (occ j o.bottom) (omega (arith, n.0))) refl
   ]
 
-  pub taken_seated : (j : ℕ) → j < length t → taken (at t j).part ≡ true → 0 < occ j o.top + occ j o.bottom
+  pub taken_seated : (j : ℕ) → j < length t → taken (at t j).links.part ≡ true → 0 < occ j o.top + occ j o.bottom
   taken_seated j low h = elim (ltb_cases 0 (occ j o.top)) [
     | inl y ↦ omega (arith, y.0)
     | inr n ↦ elim (ltb_cases 0 (occ j o.bottom)) [

@@ -1,4 +1,6 @@
 -- A pager in the course of a settle.
+use mathlib.Core.Logic.{∥∥₁_elim, ∥∥₁_map}
+use Rattle.std.specs.Coded.{le_prop}
 use Rattle.std.proofs.Common.{◌≡◌, ℕ, ◌+◌, ◌<◌, true, false, cond, ltb, ◌≢◌, [], length, get_or, set, sym, refl, ap, ◌∙◌, subst, inl, inr, add-one, arith}
 use Rattle.std.proofs.lemmas.List.{ext_get_or, length-set, get_or-set_same, get_or-set_other}
 use Rattle.std.proofs.lemmas.Bool.{cases_eq, cases_Bool, lt-ltb, le-ltb}
@@ -8,25 +10,27 @@ use Rattle.store.specs.Meaning.{Meaning}
 use Rattle.model.specs.Bytes.{Paged, paged_settle}
 use Rattle.model.specs.Kept.{Kept}
 use Rattle.model.proofs.Bytes.{kept_settle, settle_leaves}
-use Rattle.pager.specs.declared.state.Pager.{Pager}
+use Rattle.pager.specs.declared.works.Works.{Works}
 use Rattle.pager.specs.Frames.{at, page_in, cleaned, flushed, In, Absent, Apart}
 use Rattle.pager.specs.Settings.{Setting, pages_of}
 use Rattle.pager.specs.Shows.{frames_of, StoreShows, CountsShow, Shows}
-use Rattle.pager.specs.Book.{pager_meaning}
+use Rattle.pager.specs.Book.{book_of}
 use Rattle.pager.specs.Ready.{Ready}
 use Rattle.pager.specs.Partly.{partly}
 use Rattle.pager.specs.Settling.{Settling}
-use Rattle.pager.specs.Rest.{SameRest}
 use Rattle.pager.proofs.Holders.{in_order}
 use Rattle.pager.proofs.Touching.{framed_low}
 use Rattle.pager.proofs.Altering.{altered_frames}
 use Rattle.pager.proofs.Booking.{pages_by, pages_length, page_at, book_is}
-use Rattle.pager.proofs.Accepting.{same_meaning, bytes_are}
+use Rattle.pager.proofs.Accepting.{books_set, bytes_are}
 
 -- A page of a frame is a page of the store below.
-pub frames_low : {S R : Type 0} (told : R → ℕ) (meaning : S → Meaning) (s : Setting) (P : Pager S R) (w : Paged) → Shows told meaning s P w → (q i : ℕ) → In (frames_of P) q i → q < length (meaning P.below).bytes
+pub frames_low : {S R : Type 0} (told : R → ℕ) (meaning : S → Meaning) (s : Setting) (P : Works S R) (w : Paged) → Shows told meaning s P w → (q i : ℕ) → In (frames_of P) q i → q < length (meaning P.below).bytes
 frames_low told meaning s P w sh q i h =
     omega (arith, sh.store.pages_are, framed_low (pages_of s) s.slots q w.pager.order sh.frames.sound (in_order told P.table.parts (frames_of P) w.pager.order sh.frames.order_is q i h))
+
+pub low_ready : {S R : Type 0} (meaning : S → Meaning) (told : R → ℕ) (P : Works S R) → ∥ Ready meaning told P ∥₁ → (q i : ℕ) → In (frames_of P) q i → q < length (meaning P.below).bytes
+low_ready meaning told P ready q i h = ∥∥₁_elim ready le_prop (λ y. frames_low told meaning y.setting P y.model y.shows q i h)
 
 -- The turn of page m.
 module _ (m : ℕ) where
@@ -52,14 +56,13 @@ module _ (m : ℕ) where
     total_next : total (m + 1) (λ q. one (w.pager.dirty q)) ≡ total m (λ q. one (w.pager.dirty q)) + one (w.pager.dirty m)
     total_next = ap (λ n. total n (λ q. one (w.pager.dirty q))) (add-one m)
 
-    module _ {S R : Type 0} (told : R → ℕ) (meaning : S → Meaning) (s : Setting) (P : Pager S R) (sh : Shows told meaning s P (partly m w)) where
+    module _ {S R : Type 0} (told : R → ℕ) (meaning : S → Meaning) (s : Setting) (P : Works S R) (sh : Shows told meaning s P (partly m w)) where
       counts_as : CountsShow P.counts (partly (m + 1) w)
       counts_as = record { hits_are = sh.counts.hits_are; reclaims_are = sh.counts.reclaims_are; faults_are = sh.counts.faults_are; evictions_are = sh.counts.evictions_are }
 
       -- The page has no frame, so it is clean.
       pub settle_absent : Absent (frames_of P) m → Shows told meaning s P (partly (m + 1) w)
       settle_absent none = record {
-        pages_are = sh.pages_are;
         frames = record {
           slots_are = sh.frames.slots_are;
           room_is = sh.frames.room_is;
@@ -84,7 +87,7 @@ module _ (m : ℕ) where
         clean = rw not_yet at (sh.frames.others_clean m none)
 
       -- Its frame was saved if it was dirty, and is clean.
-      module _ (Q : Pager S R) (i : ℕ) (here : In (frames_of P) m i) (apart : Apart (frames_of P)) (pages : Q.pages ≡ P.pages) (parts : Q.table.parts ≡ P.table.parts) (counts : Q.counts ≡ P.counts)
+      module _ (Q : Works S R) (i : ℕ) (here : In (frames_of P) m i) (apart : Apart (frames_of P)) (parts : Q.table.parts ≡ P.table.parts) (counts : Q.counts ≡ P.counts)
           (wrote : frames_of Q ≡ set (frames_of P) i (cleaned (at (frames_of P) i))) (below : meaning Q.below ≡ flushed (at (frames_of P) i) (meaning P.below)) (low : m < length (meaning P.below).bytes) where
         dirty_is : (at (frames_of P) i).dirty ≡ w.pager.dirty m
         dirty_is = rw not_yet at (sh.frames.dirty_are m i here)
@@ -122,41 +125,15 @@ module _ (m : ℕ) where
 
         pub settle_held : Shows told meaning s Q (partly (m + 1) w)
         settle_held = record {
-          pages_are = pages ∙ sh.pages_are;
           frames = rw parts (altered_frames (frames_of P) (frames_of Q) i (cleaned (at (frames_of P) i)) wrote here.within refl refl refl refl told s P.table.parts (partly m w) (partly (m + 1) w) m sh.frames apart here refl (rw next refl) bytes_is (others_dirty) (λ q ne. refl));
           store = rw below store_after;
           counts = rw counts counts_as;
         }
 
 module _ {S R : Type 0} (told : R → ℕ) (meaning : S → Meaning) (s : Setting) where
-  -- Before the first page nothing is done.
-  pub partly_none : (P : Pager S R) (w : Paged) → Shows told meaning s P w → Shows told meaning s P (partly 0 w)
-  partly_none P w sh = record {
-    pages_are = sh.pages_are;
-    frames = record {
-      slots_are = sh.frames.slots_are;
-      room_is = sh.frames.room_is;
-      order_is = sh.frames.order_is;
-      sound = sh.frames.sound;
-      dirty_are = λ q i h. rw (none q) (sh.frames.dirty_are q i h);
-      others_clean = λ q a. rw (none q) (sh.frames.others_clean q a);
-      bytes_are = sh.frames.bytes_are;
-    };
-    store = record {
-      pages_are = sh.store.pages_are;
-      bytes_are = λ q low. rw (none q) (sh.store.bytes_are q low);
-      fetches_are = sh.store.fetches_are;
-      saves_are = sh.store.saves_are ∙ omega arith;
-    };
-    counts = record { hits_are = sh.counts.hits_are; reclaims_are = sh.counts.reclaims_are; faults_are = sh.counts.faults_are; evictions_are = sh.counts.evictions_are };
-  } where
-    none : (q : ℕ) → ltb q 0 ≡ false
-    none q = le-ltb q 0 (omega arith)
-
   -- After the last page everything is.
-  pub partly_all : (P : Pager S R) (w : Paged) → Shows told meaning s P (partly (pages_of s) w) → Shows told meaning s P (paged_settle (pages_of s) w)
+  pub partly_all : (P : Works S R) (w : Paged) → Shows told meaning s P (partly (pages_of s) w) → Shows told meaning s P (paged_settle (pages_of s) w)
   partly_all P w sh = record {
-    pages_are = sh.pages_are;
     frames = record {
       slots_are = sh.frames.slots_are;
       room_is = sh.frames.room_is;
@@ -176,33 +153,46 @@ module _ {S R : Type 0} (told : R → ℕ) (meaning : S → Meaning) (s : Settin
   }
 
 -- The settle has come to the end.
-pub partly_end : {S R : Type 0} (opened : S → Type 0) (meaning : S → Meaning) (told : R → ℕ) (P Q : Pager S R) (m : ℕ) → Settling opened meaning told P Q m → m ≡ P.pages →
+pub partly_end : {S R : Type 0} (meaning : S → Meaning) (told : R → ℕ) (P Q : Works S R) (m : ℕ) → Settling meaning told P Q m → m ≡ length (meaning P.below).bytes →
     (s : Setting) (w : Paged) → Shows told meaning s P w → Shows told meaning s Q (paged_settle (pages_of s) w)
-partly_end opened meaning told P Q m inv over s w sh = partly_all told meaning s Q w (subst (λ n. Shows told meaning s Q (partly n w)) (over ∙ sh.pages_are) (inv.shows s w sh))
+partly_end meaning told P Q m inv over s w sh = partly_all told meaning s Q w (subst (λ n. Shows told meaning s Q (partly n w)) (over ∙ sh.store.pages_are) (inv.shows s w sh))
 
 -- A settled pager.
-module _ {S R : Type 0} (opened : S → Type 0) (meaning : S → Meaning) (told : R → ℕ) (P Q : Pager S R) (ready : Ready opened meaning told P) (open' : opened Q.below) (rest : SameRest P Q) (shows : Shows told meaning ready.setting Q (paged_settle (pages_of ready.setting) ready.model)) where
+module _ {S R : Type 0} (meaning : S → Meaning) (told : R → ℕ) (P Q : Works S R) (ready : Ready meaning told P) (shows : Shows told meaning ready.setting Q (paged_settle (pages_of ready.setting) ready.model)) where
   kept' : Kept (pages_of ready.setting) ready.setting.slots (paged_settle (pages_of ready.setting) ready.model) ready.book
   kept' = kept_settle (pages_of ready.setting) ready.setting.slots ready.model ready.book ready.kept
 
-  pub settle_ready : Ready opened meaning told Q
+  settle_ready : Ready meaning told Q
   settle_ready = record {
     setting = ready.setting;
     model = paged_settle (pages_of ready.setting) ready.model;
     book = ready.book;
-    store = open';
     sized = ready.sized;
     shows = shows;
     kept = kept';
     long = ready.long;
   }
 
-  pub settle_same : pager_meaning meaning Q ≡ pager_meaning meaning P
-  settle_same = same_meaning _ _ _ _ _ _ (book_is told meaning ready.setting Q (paged_settle (pages_of ready.setting) ready.model) ready.book shows kept' ∙ sym (bytes_are opened meaning told P ready)) rest.fetches rest.saves
+  settle_keeps : book_of meaning Q ≡ book_of meaning P
+  settle_keeps = book_is told meaning ready.setting Q (paged_settle (pages_of ready.setting) ready.model) ready.book shows kept' ∙ sym (bytes_are meaning told P ready)
 
-  pub settle_below : (meaning Q.below).bytes ≡ (pager_meaning meaning P).bytes
-  settle_below = ext_get_or [] _ _ (shows.store.pages_are ∙ sym (pages_length ready.book (pages_of ready.setting))) each ∙ sym (bytes_are opened meaning told P ready) where
+  settle_below : (meaning Q.below).bytes ≡ book_of meaning P
+  settle_below = ext_get_or [] _ _ (shows.store.pages_are ∙ sym (pages_length ready.book (pages_of ready.setting))) each ∙ sym (bytes_are meaning told P ready) where
     each : (q : ℕ) → q < length (meaning Q.below).bytes → get_or (meaning Q.below).bytes q [] ≡ get_or (pages_by ready.book (pages_of ready.setting)) q []
     each q h =
         let low : q < pages_of ready.setting = omega (arith, shows.store.pages_are) in
         shows.store.bytes_are q low ∙ (settle_leaves (pages_of ready.setting) ready.setting.slots ready.model ready.book ready.kept q ∙ sym (page_at ready.book (pages_of ready.setting) q low))
+
+module _ {S R : Type 0} (meaning : S → Meaning) (told : R → ℕ) (P Q : Works S R) (ready : ∥ Ready meaning told P ∥₁) (step : (s : Setting) (w : Paged) → Shows told meaning s P w → Shows told meaning s Q (paged_settle (pages_of s) w)) where
+  pub settled_ready : ∥ Ready meaning told Q ∥₁
+  settled_ready = ∥∥₁_map ready (λ y. settle_ready meaning told P Q y (step y.setting y.model y.shows))
+
+  pub settled_keeps : book_of meaning Q ≡ book_of meaning P
+  settled_keeps = ∥∥₁_elim ready (books_set _ _) (λ y. settle_keeps meaning told P Q y (step y.setting y.model y.shows))
+
+  pub settled_below : (meaning Q.below).bytes ≡ book_of meaning P
+  settled_below = ∥∥₁_elim ready (books_set _ _) (λ y. settle_below meaning told P Q y (step y.setting y.model y.shows))
+
+-- A page of a frame is a page of the store below in the course of a settle too.
+pub low_of : {S R : Type 0} (meaning : S → Meaning) (told : R → ℕ) (P Q : Works S R) (m : ℕ) → ∥ Ready meaning told P ∥₁ → Settling meaning told P Q m → (q i : ℕ) → In (frames_of Q) q i → q < length (meaning Q.below).bytes
+low_of meaning told P Q m ready inv q i h = ∥∥₁_elim ready le_prop (λ y. frames_low told meaning y.setting Q (partly m y.model) (inv.shows y.setting y.model y.shows) q i h)

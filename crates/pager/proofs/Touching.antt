@@ -13,8 +13,8 @@ use Rattle.model.specs.Bytes.{Paged}
 use Rattle.pager.proofs.Faults.{cut_none}
 use Rattle.order.specs.declared.parts.TwoParts.{TwoParts}
 use Rattle.pager.specs.declared.frame.Frame.{Frame}
-use Rattle.pager.specs.declared.state.UseCounts.{UseCounts}
-use Rattle.pager.specs.declared.state.Pager.{Pager}
+use Rattle.pager.specs.declared.works.UseCounts.{UseCounts}
+use Rattle.pager.specs.declared.works.Works.{Works}
 use Rattle.pager.specs.Frames.{at, page_in, cleaned, taken, In, Apart}
 use Rattle.pager.specs.Framed.{Framed, SameContents, renamed, Sat}
 use Rattle.pager.specs.Vacant.{Vacant}
@@ -78,7 +78,7 @@ module _ (r : Rule) (k l p : ℕ) (x : List ℕ) (w : Paged) (c : UseCounts) (cs
     }
 
 -- The page of frame i was used where it was.
-module _ {S R : Type 0} (told : R → ℕ) (meaning : S → Meaning) (r : Rule) (s : Setting) (P Q : Pager S R) (w : Paged) (i : ℕ) (sh : Shows told meaning s P w) (slots : (state : ℕ) → r.slot state s.slots < s.slots)
+module _ {S R : Type 0} (told : R → ℕ) (meaning : S → Meaning) (r : Rule) (s : Setting) (P Q : Works S R) (w : Paged) (i : ℕ) (sh : Shows told meaning s P w) (slots : (state : ℕ) → r.slot state s.slots < s.slots)
     (was : In (frames_of P) (page_in (frames_of P) i) i) (apart : Apart (frames_of P)) (apart' : Apart (frames_of Q)) (same : SameContents (frames_of P) (frames_of Q)) (same-slots : Q.table.parts.slots ≡ P.table.parts.slots)
     (sat : Sat told r P.table.parts.slots (frames_of P) w.pager.order i Q.table.parts (frames_of Q)) where
   abbrev page : ℕ
@@ -100,19 +100,18 @@ module _ {S R : Type 0} (told : R → ℕ) (meaning : S → Meaning) (r : Rule) 
       (λ q j ne h. (sat.others q j (λ e. ne (sym h.here ∙ (same_page (frames_of P) (frames_of Q) same j ∙ ap (page_in (frames_of P)) e))) h, same_at (frames_of P) (frames_of Q) same j))
       (same_at (frames_of P) (frames_of Q) same i) was
 
-  counts_after : (part : Part) → (at (frames_of P) i).part ≡ part → CountsShow (found_in part P.counts) (touched r s.slots s.bottom page (at (frames_of Q) i).bytes w)
+  counts_after : (part : Part) → (at (frames_of P) i).links.part ≡ part → CountsShow (found_in part P.counts) (touched r s.slots s.bottom page (at (frames_of Q) i).bytes w)
   counts_after Unused e = absurd (true≢false (sym was.held ∙ ap taken e))
   counts_after Top e = counts_hit r s.slots s.bottom page (at (frames_of Q) i).bytes w P.counts sh.counts nothing_gone (page_in_top told P.table.parts (frames_of P) w.pager.order sh.frames.order_is page i was e)
   counts_after Bottom e =
       let h = page_in_bottom told P.table.parts (frames_of P) w.pager.order sh.frames.order_is apart page i was e in
       counts_reclaim r s.slots s.bottom page (at (frames_of Q) i).bytes w P.counts sh.counts nothing_gone h.0 h.1
 
-  pub touch_shows : Q.pages ≡ P.pages → Q.below ≡ P.below → Q.counts ≡ found_in (at (frames_of P) i).part P.counts → Shows told meaning s Q (touched r s.slots s.bottom page (at (frames_of Q) i).bytes w)
-  touch_shows pages below counts = record {
-    pages_are = pages ∙ sh.pages_are;
+  pub touch_shows : Q.below ≡ P.below → Q.counts ≡ found_in (at (frames_of P) i).links.part P.counts → Shows told meaning s Q (touched r s.slots s.bottom page (at (frames_of Q) i).bytes w)
+  touch_shows below counts = record {
     frames = frames_after;
     store = rw below (store_kept r s page w (at (frames_of Q) i).bytes (meaning P.below) sh.store nothing_gone);
-    counts = rw counts (counts_after (at (frames_of P) i).part refl);
+    counts = rw counts (counts_after (at (frames_of P) i).links.part refl);
   }
 
 -- A frame that was made free stays free once its page is marked clean.
@@ -128,7 +127,7 @@ module _ {X : Type 0} (told : X → ℕ) (r : Rule) (k l : ℕ) (t : List Frame)
     here : In u' q i → j ≡ i → In u q j
     here y e = subst (λ x. In u q x) (sym e) (record {
       within = low;
-      held = ap (λ (f : Frame). taken f.part) (sym (at_here u u' i (cleaned (at u i)) is low refl refl refl)) ∙ y.held;
+      held = ap (λ (f : Frame). taken f.links.part) (sym (at_here u u' i (cleaned (at u i)) is low refl refl refl)) ∙ y.held;
       here = ap (λ (f : Frame). f.page) (sym (at_here u u' i (cleaned (at u i)) is low refl refl refl)) ∙ y.here;
     })
 

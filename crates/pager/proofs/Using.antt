@@ -1,5 +1,6 @@
 -- What a pager shows once a page was used, before its bytes move.
-use Rattle.std.proofs.Common.{◌≡◌, ℕ, ◌+◌, ◌<◌, ◌≤◌, Bool, true, false, cond, ◌&&◌, eqb, ltb, ◌≢◌, List, [], ◌∷◌, length, get_or, set, sym, refl, ap, ◌∙◌, subst, inl, inr, arith}
+use Rattle.std.proofs.Common.{◌≡◌, ℕ, ◌+◌, ◌<◌, ◌≤◌, true, false, cond, eqb, ltb, ◌≢◌, List, [], ◌∷◌, length, get_or, set, sym, refl, ap, ◌∙◌, subst, inl, inr, arith}
+use Rattle.std.proofs.Math.Bool.{and-false, and-true}
 use Rattle.std.proofs.lemmas.List.{length-set, get_or-set_same, get_or-set_other}
 use Rattle.std.proofs.lemmas.Bool.{cases_lt, cases_Bool, lt-ltb, le-ltb, eq-eqb}
 use Rattle.store.specs.Meaning.{Meaning}
@@ -18,14 +19,6 @@ use Rattle.pager.specs.Settings.{Setting, pages_of}
 use Rattle.pager.specs.Shows.{FramesShow, StoreShows}
 use Rattle.pager.specs.Touched.{touched}
 use Rattle.pager.proofs.Holders.{in_order, none_in}
-
-and_false : (b : Bool) → (b && false) ≡ false
-and_false true = refl
-and_false false = refl
-
-and_true : (b : Bool) → (b && true) ≡ b
-and_true true = refl
-and_true false = refl
 
 at_most_one : (n q x : ℕ) → x ≤ one (ltb q n) → x ≤ 1
 at_most_one n q x h = elim (ltb_cases q n) [ inl y ↦ omega (arith, rw y.1 at h) | inr m ↦ omega (arith, rw m.1 at h) ]
@@ -53,11 +46,11 @@ module _ {X : Type 0} (told : X → ℕ) (r : Rule) (s : Setting) (c c' : TwoPar
   framed_stays q j ne h = le-ltb 0 (occ q gone) (omega (arith, parts q (λ e. ne (sym e)), in_order told c' u (cut s.bottom (used r s.slots p o)) shows q j h, at_most_one (pages_of s) q (frames q o) (fs.sound.once q)))
 
   others_dirty : (q j : ℕ) → q ≢ p → In u q j → (at u j).dirty ≡ still_dirty r s.slots s.bottom p w.pager q
-  others_dirty q j ne h = let m = others q j ne h in rw (framed_stays q j ne h, and_true (w.pager.dirty q)) (ap (λ (f : Frame). f.dirty) m.1 ∙ fs.dirty_are q j m.0)
+  others_dirty q j ne h = let m = others q j ne h in rw (framed_stays q j ne h, and-true (w.pager.dirty q)) (ap (λ (f : Frame). f.dirty) m.1 ∙ fs.dirty_are q j m.0)
 
   left_clean : (q : ℕ) → Absent u q → still_dirty r s.slots s.bottom p w.pager q ≡ false
   left_clean q none = elim (cases_lt 0 (frames q o)) [
-    | inl y ↦ rw (lt-ltb 0 (occ q gone) (omega (arith, parts q away, none_in told c' u (cut s.bottom (used r s.slots p o)) shows q none))) (and_false (w.pager.dirty q))
+    | inl y ↦ rw (lt-ltb 0 (occ q gone) (omega (arith, parts q away, none_in told c' u (cut s.bottom (used r s.slots p o)) shows q none))) (and-false (w.pager.dirty q))
     | inr m ↦ rw (fs.others_clean q (λ j h. omega (arith, in_order told c t o fs.order_is q j h))) refl
   ] where
     away : p ≢ q
@@ -75,7 +68,7 @@ module _ {X : Type 0} (told : X → ℕ) (r : Rule) (s : Setting) (c c' : TwoPar
       order_is = shows;
       sound = sound_cut (pages_of s) s.slots s.bottom (used r s.slots p o) (sound_used (pages_of s) s.slots p o fs.sound low r (slots o.told));
       dirty_are = λ q j h. elim (eqb_cases q p) [
-        | inl e ↦ rw (e.0, self_stays, and_true (w.pager.dirty p)) (ap (λ x. (at u x).dirty) (apart p j i (subst (λ x. In u x j) e.0 h) here) ∙ dirty)
+        | inl e ↦ rw (e.0, self_stays, and-true (w.pager.dirty p)) (ap (λ x. (at u x).dirty) (apart p j i (subst (λ x. In u x j) e.0 h) here) ∙ dirty)
         | inr m ↦ others_dirty q j m.0 h
       ];
       others_clean = left_clean;
@@ -107,7 +100,7 @@ module _ (r : Rule) (s : Setting) (p : ℕ) (w : Paged) (x : List ℕ) (m : Mean
   pub store_kept : evicted r s.slots s.bottom p w.pager.order ≡ [] → StoreShows s m (touched r s.slots s.bottom p x w)
   store_kept e = record {
     pages_are = ss.pages_are;
-    bytes_are = λ q h. rw (e, and_false (w.pager.dirty q)) (ss.bytes_are q h);
+    bytes_are = λ q h. rw (e, and-false (w.pager.dirty q)) (ss.bytes_are q h);
     fetches_are = ss.fetches_are;
     saves_are = rw e (ss.saves_are ∙ omega arith);
   }
@@ -120,13 +113,13 @@ module _ (r : Rule) (s : Setting) (p : ℕ) (w : Paged) (x : List ℕ) (m : Mean
     kept_below : (q : ℕ) → w.pager.dirty f.page ≡ false → saved_below r s.slots s.bottom p w q ≡ w.below q
     kept_below q clean = rw (e, alone_there q) (elim (eqb_cases f.page q) [
       | inl y ↦ rw (← y.0, clean) refl
-      | inr n ↦ rw (n.1, and_false (w.pager.dirty q)) refl
+      | inr n ↦ rw (n.1, and-false (w.pager.dirty q)) refl
     ])
 
     saved_below_lem : (q : ℕ) → w.pager.dirty f.page ≡ true → q < pages_of s → get_or (set m.bytes f.page f.bytes) q [] ≡ saved_below r s.slots s.bottom p w q
     saved_below_lem q is h = rw (e, alone_there q) (elim (eqb_cases f.page q) [
       | inl y ↦ rw (← y.0, is, eq-eqb f.page f.page refl) (get_or-set_same m.bytes f.page f.bytes [] (omega (arith, ss.pages_are)) ∙ bytes)
-      | inr n ↦ rw (n.1, and_false (w.pager.dirty q)) (get_or-set_other m.bytes f.page q f.bytes [] (λ z. n.0 (sym z)) ∙ ss.bytes_are q h)
+      | inr n ↦ rw (n.1, and-false (w.pager.dirty q)) (get_or-set_other m.bytes f.page q f.bytes [] (λ z. n.0 (sym z)) ∙ ss.bytes_are q h)
     ])
 
     pub store_saved : StoreShows s (flushed f m) (touched r s.slots s.bottom p x w)

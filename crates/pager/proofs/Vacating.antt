@@ -25,7 +25,7 @@ pub used_stays : (r : Rule) (k p : ℕ) (o : Order) → 0 < occ p o.top → used
 used_stays r k p o h = rw (lt-ltb 0 (occ p o.top) h) refl
 
 -- A table that shows the order o has k slots and k + l frames, and every frame holds a page.
-module _ {X : Type 0} (told : X → ℕ) (l : ℕ) (c : TwoParts X) (t : List Frame) (o : Order) (f : Framed told c t o) (room : length t ≡ c.slots + l) (all : (i : ℕ) → i < length t → taken (at t i).part ≡ true) where
+module _ {X : Type 0} (told : X → ℕ) (l : ℕ) (c : TwoParts X) (t : List Frame) (o : Order) (f : Framed told c t o) (room : length t ≡ c.slots + l) (all : (i : ℕ) → i < length t → taken (at t i).links.part ≡ true) where
   whole : length o.top + length o.bottom ≡ c.slots + l
   whole = omega (arith, seats_all c t f.seats f.stands.arranged all, top_long told c t o f, bottom_long told c t o f, room)
 
@@ -42,7 +42,7 @@ module _ {X : Type 0} (told : X → ℕ) (r : Rule) (n l p : ℕ) (c : TwoParts 
   gone = none_in told c t o f p none
 
   -- A frame holds no page.
-  pub vacant_free : p < n → (i : ℕ) → i < length t → (at t i).part ≡ Unused → Vacant told r c.slots l t o p i c t
+  pub vacant_free : p < n → (i : ℕ) → i < length t → (at t i).links.part ≡ Unused → Vacant told r c.slots l t o p i c t
   vacant_free low i within idle = record {
     within = within;
     before = λ q j h. h;
@@ -58,7 +58,7 @@ module _ {X : Type 0} (told : X → ℕ) (r : Rule) (n l p : ℕ) (c : TwoParts 
     left = omega (arith, seats_left c t f.seats f.stands.arranged i within idle, top_long told c t o f, bottom_long told c t o f, room)
 
   -- Every frame holds a page.
-  module _ (all : (i : ℕ) → i < length t → taken (at t i).part ≡ true) where
+  module _ (all : (i : ℕ) → i < length t → taken (at t i).links.part ≡ true) where
     full : c.slots ≤ length o.top
     full = top_full told l c t o f room all
 
@@ -100,7 +100,7 @@ module _ {X : Type 0} (told : X → ℕ) (r : Rule) (n l p : ℕ) (c : TwoParts 
       named_is = ap (λ x. named (replacing x p) (asked r c.slots o)) h.page ∙ slot_named r c.slots p o full gone low once bare
 
 -- The last of an empty bottom was asked for, which altered nothing, and then the rule.
-module _ {X : Type 0} (told : X → ℕ) (r : Rule) (l : ℕ) (c c₁ c₂ : TwoParts X) (t t₁ t₂ : List Frame) (i : ℕ) (ec : c₁ ≡ c) (et : t₁ ≡ t) (e₂ : t₂ ≡ t₁) (all : (j : ℕ) → j < length t → taken (at t j).part ≡ true)
+module _ {X : Type 0} (told : X → ℕ) (r : Rule) (l : ℕ) (c c₁ c₂ : TwoParts X) (t t₁ t₂ : List Frame) (i : ℕ) (ec : c₁ ≡ c) (et : t₁ ≡ t) (e₂ : t₂ ≡ t₁) (all : (j : ℕ) → j < length t → taken (at t j).links.part ≡ true)
     (step : (o : Order) → Framed told c₁ t₁ o → c₁.slots ≤ length o.top → Slotted told r c₁.slots t₁ o i c₂) where
   pub slot_held : (o : Order) → Framed told c t o → length t ≡ c.slots + l → Slotted told r c.slots t o i c₂
   slot_held o f room = moved f (top_full told l c t o f room all) where

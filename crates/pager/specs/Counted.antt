@@ -1,23 +1,23 @@
 use Rattle.links.specs.declared.Part.{Part}
 use Rattle.links.specs.declared.Part.TheVariants.{Unused, Top, Bottom}
-use Rattle.store.specs.Meaning.{counted}
-use Rattle.pager.specs.declared.state.UseCounts.{UseCounts}
+use Rattle.store.specs.Counting.{counted}
+use Rattle.pager.specs.declared.works.UseCounts.{UseCounts}
 
 -- One more use of a page in the top.
 abbrev pub hit : UseCounts → UseCounts
-hit c = record { hits = counted c.hits; reclaims = c.reclaims; faults = c.faults; evictions = c.evictions }
+hit c = record c { hits = counted c.hits }
 
 -- One more use of a page in the bottom.
 abbrev pub reclaimed : UseCounts → UseCounts
-reclaimed c = record { hits = c.hits; reclaims = counted c.reclaims; faults = c.faults; evictions = c.evictions }
+reclaimed c = record c { reclaims = counted c.reclaims }
 
 -- One more use of a page in neither part.
 abbrev pub faulted : UseCounts → UseCounts
-faulted c = record { hits = c.hits; reclaims = c.reclaims; faults = counted c.faults; evictions = c.evictions }
+faulted c = record c { faults = counted c.faults }
 
 -- One more page that left the bottom at its end.
 abbrev pub driven_out : UseCounts → UseCounts
-driven_out c = record { hits = c.hits; reclaims = c.reclaims; faults = c.faults; evictions = counted c.evictions }
+driven_out c = record c { evictions = counted c.evictions }
 
 -- One more use of a page whose frame is in this part; a page of no part has no frame.
 abbrev pub found_in : Part → UseCounts → UseCounts

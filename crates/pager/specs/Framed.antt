@@ -1,4 +1,4 @@
-use Rattle.std.specs.Prelude.{◌≡◌, ℕ, ◌<◌, Bool, false, cond, ◌≢◌, List, [], ◌∷◌, ◌++◌, map, length, ◌==◌, slice_index}
+use Rattle.std.specs.Prelude.{◌≡◌, ℕ, ◌<◌, false, cond, ◌≢◌, List, [], ◌∷◌, ◌++◌, map, length, ◌==◌, slice_index}
 use Rattle.links.specs.declared.Part.TheVariants.{Unused}
 use Rattle.model.specs.Order.{Rule, Order, used}
 use Rattle.model.specs.Named.{named}
@@ -28,11 +28,7 @@ replacing q p x = cond (x == q) p x
 
 -- A frame named after page p, which is clean.
 abbrev pub renamed : ℕ → Frame → Frame
-renamed p f = record { next = f.next; prev = f.prev; part = f.part; page = p; dirty = false; bytes = f.bytes }
-
--- A frame whose page is dirty, or clean.
-abbrev pub marked : Bool → Frame → Frame
-marked d f = record { next = f.next; prev = f.prev; part = f.part; page = f.page; dirty = d; bytes = f.bytes }
+renamed p f = record f { page = p; dirty = false }
 
 -- Frame i took its seat in a table that showed the order o: the page that it is named after was used.
 pub record Sat {X : Type 0} (told : X → ℕ) (r : Rule) (k : ℕ) (t : List Frame) (o : Order) (i : ℕ) (c' : TwoParts X) (t' : List Frame) : Type 0 where
@@ -45,7 +41,7 @@ pub record Released {X : Type 0} (told : X → ℕ) (t : List Frame) (o : Order)
   pub within : i < length t
   pub was : In t (page_in t i) i
   pub oldest : o.bottom ≡ (without_last o).bottom ++ page_in t i ∷ []
-  pub idle : (at t' i).part ≡ Unused
+  pub idle : (at t' i).links.part ≡ Unused
   pub shows : Framed told c' t' (without_last o)
 
 -- Frame i was released, and no frame holds a page that it did not hold before.

@@ -7,11 +7,11 @@ use Rattle.pager.specs.declared.frame.Frame.{Frame}
 
 -- A frame that holds nothing.
 abbrev pub blank : Frame
-blank = record { next = None; prev = None; part = Unused; page = 0; dirty = false; bytes = [] }
+blank = record { links = record { next = None; prev = None; part = Unused }; page = 0; dirty = false; bytes = [] }
 
 -- A frame as it is laid out when a pager is opened: it holds no page.
 abbrev pub idle : Frame
-idle = record { next = None; prev = None; part = Unused; page = 0; dirty = false; bytes = replicate 64 0 }
+idle = record { links = record { next = None; prev = None; part = Unused }; page = 0; dirty = false; bytes = replicate 64 0 }
 
 -- Frame i of a table.
 abbrev pub at : List Frame → ℕ → Frame
@@ -23,19 +23,19 @@ page_in t i = (at t i).page
 
 -- A frame without its seat: what it holds.
 abbrev pub contents : Frame → Frame
-contents f = record { next = None; prev = None; part = Unused; page = f.page; dirty = f.dirty; bytes = f.bytes }
+contents f = record f { links = record { next = None; prev = None; part = Unused } }
 
 -- A frame whose page is the same as below.
 abbrev pub cleaned : Frame → Frame
-cleaned f = record { next = f.next; prev = f.prev; part = f.part; page = f.page; dirty = false; bytes = f.bytes }
+cleaned f = record f { dirty = false }
 
 -- A frame that has got its page's bytes from below.
 abbrev pub filled : List ℕ → Frame → Frame
-filled x f = record { next = f.next; prev = f.prev; part = f.part; page = f.page; dirty = f.dirty; bytes = x }
+filled x f = record f { bytes = x }
 
 -- A frame whose page was written.
 abbrev pub written : List ℕ → Frame → Frame
-written x f = record { next = f.next; prev = f.prev; part = f.part; page = f.page; dirty = true; bytes = x }
+written x f = record f { dirty = true; bytes = x }
 
 -- The store below once a frame's page was saved there if it was dirty.
 abbrev pub flushed : Frame → Meaning → Meaning
@@ -43,7 +43,7 @@ flushed f m = cond f.dirty (saved m f.page f.bytes) m
 
 -- What the order reads of a frame table.
 abbrev pub seats_of : List Frame → Views
-seats_of t = views_of (λ (f : Frame). f.next) (λ (f : Frame). f.prev) (λ (f : Frame). f.part) t
+seats_of t = views_of (λ (f : Frame). f.links) t
 
 -- Whether a frame in this part holds a page.
 abbrev pub taken : Part → Bool
@@ -54,7 +54,7 @@ taken Bottom = true
 -- Frame i holds page p.
 pub record In (t : List Frame) (p i : ℕ) : Type 0 where
   pub within : i < length t
-  pub held : taken (at t i).part ≡ true
+  pub held : taken (at t i).links.part ≡ true
   pub here : page_in t i ≡ p
 
 -- No frame holds page p.

@@ -8,7 +8,6 @@ pub mod Shows
 pub mod Where
 pub mod Book
 pub mod Ready
-pub mod Rest
 pub mod Touched
 pub mod Counted
 pub mod Roomy

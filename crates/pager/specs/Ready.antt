@@ -3,17 +3,16 @@ use Rattle.store.specs.Meaning.{Meaning}
 use Rattle.store.specs.Sized.{Sized}
 use Rattle.model.specs.Bytes.{Paged}
 use Rattle.model.specs.Kept.{Kept}
-use Rattle.pager.specs.declared.state.Pager.{Pager}
+use Rattle.pager.specs.declared.works.Works.{Works}
 use Rattle.pager.specs.Settings.{Setting, pages_of}
 use Rattle.pager.specs.Shows.{Shows}
 
--- What is true of a pager from its opening on, however it is called: the store below is open, and the pager shows
--- some model that keeps the bytes of a book of whole pages.
-pub record Ready {S R : Type 0} (opened : S → Type 0) (meaning : S → Meaning) (told : R → ℕ) (p : Pager S R) : Type 0 where
+-- What is true of a pager from its opening on, however it is called: it shows some model that keeps the bytes of a book
+-- of whole pages.
+pub record Ready {S R : Type 0} (meaning : S → Meaning) (told : R → ℕ) (p : Works S R) : Type 0 where
   pub setting : Setting
   pub model : Paged
   pub book : ℕ → List ℕ
-  pub store : opened p.below
   pub sized : Sized setting.first.bytes
   pub shows : Shows told meaning setting p model
   pub kept : Kept (pages_of setting) setting.slots model book

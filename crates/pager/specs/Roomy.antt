@@ -2,7 +2,7 @@ use Rattle.std.specs.Prelude.{◌≡◌, ℕ, ◌≢◌, List, length}
 use Rattle.store.specs.Meaning.{Meaning}
 use Rattle.model.specs.Order.{Rule}
 use Rattle.model.specs.Bytes.{Paged}
-use Rattle.pager.specs.declared.state.Pager.{Pager}
+use Rattle.pager.specs.declared.works.Works.{Works}
 use Rattle.pager.specs.Frames.{at, contents}
 use Rattle.pager.specs.Vacant.{Vacant}
 use Rattle.pager.specs.Settings.{Setting}
@@ -12,7 +12,7 @@ use Rattle.pager.specs.Touched.{touched}
 
 -- A pager that showed a model and is q now has frame i free for page p, which has none: what it drives out is saved below
 -- and counted, and the other frames hold what they held.
-pub record Roomy {S R : Type 0} (told : R → ℕ) (meaning : S → Meaning) (r : Rule) (s : Setting) (p q : Pager S R) (w : Paged) (page i : ℕ) : Type 0 where
+pub record Roomy {S R : Type 0} (told : R → ℕ) (meaning : S → Meaning) (r : Rule) (s : Setting) (p q : Works S R) (w : Paged) (page i : ℕ) : Type 0 where
   pub vacant : Vacant told r s.slots s.bottom (frames_of p) w.pager.order page i q.table.parts (frames_of q)
   pub others : (j : ℕ) → j ≢ i → contents (at (frames_of q) j) ≡ contents (at (frames_of p) j)
   pub long : length (frames_of q) ≡ length (frames_of p)

@@ -5,14 +5,14 @@ use Rattle.model.specs.Sound.{Sound}
 use Rattle.model.specs.Bytes.{Paged}
 use Rattle.order.specs.declared.parts.TwoParts.{TwoParts}
 use Rattle.pager.specs.declared.frame.Frame.{Frame}
-use Rattle.pager.specs.declared.state.UseCounts.{UseCounts}
-use Rattle.pager.specs.declared.state.Pager.{Pager}
+use Rattle.pager.specs.declared.works.UseCounts.{UseCounts}
+use Rattle.pager.specs.declared.works.Works.{Works}
 use Rattle.pager.specs.Frames.{at, In, Absent}
 use Rattle.pager.specs.Framed.{Framed}
 use Rattle.pager.specs.Settings.{Setting, pages_of}
 
--- The frames of a pager.
-abbrev pub frames_of : {S R : Type 0} → Pager S R → List Frame
+-- The frames of a pager's works.
+abbrev pub frames_of : {S R : Type 0} → Works S R → List Frame
 frames_of p = vec_items p.table.frames
 
 -- A frame table shows a model: as many frames as slots and pages of the bottom, in the model's order;
@@ -31,8 +31,8 @@ pub record FramesShow {R : Type 0} (told : R → ℕ) (s : Setting) (c : TwoPart
 pub record StoreShows (s : Setting) (m : Meaning) (w : Paged) : Type 0 where
   pub pages_are : length m.bytes ≡ pages_of s
   pub bytes_are : (q : ℕ) → q < pages_of s → slice_index_or m.bytes q [] ≡ w.below q
-  pub fetches_are : wrapped m.fetches ≡ wrapped (s.first.fetches + w.pager.fetches)
-  pub saves_are : wrapped m.saves ≡ wrapped (s.first.saves + w.pager.saves)
+  pub fetches_are : wrapped m.tallies.fetches ≡ wrapped (s.first.tallies.fetches + w.pager.fetches)
+  pub saves_are : wrapped m.tallies.saves ≡ wrapped (s.first.tallies.saves + w.pager.saves)
 
 -- The counters show a model.
 pub record CountsShow (c : UseCounts) (w : Paged) : Type 0 where
@@ -42,8 +42,7 @@ pub record CountsShow (c : UseCounts) (w : Paged) : Type 0 where
   pub evictions_are : c.evictions ≡ wrapped w.pager.evictions
 
 -- A pager shows a model: its frames, the store below and its counters do.
-pub record Shows {S R : Type 0} (told : R → ℕ) (meaning : S → Meaning) (s : Setting) (p : Pager S R) (w : Paged) : Type 0 where
-  pub pages_are : p.pages ≡ pages_of s
+pub record Shows {S R : Type 0} (told : R → ℕ) (meaning : S → Meaning) (s : Setting) (p : Works S R) (w : Paged) : Type 0 where
   pub frames : FramesShow told s p.table.parts (frames_of p) w
   pub store : StoreShows s (meaning p.below) w
   pub counts : CountsShow p.counts w

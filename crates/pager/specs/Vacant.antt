@@ -8,7 +8,7 @@ use Rattle.pager.specs.Framed.{Framed, renamed}
 
 -- The page that a frame holds, as a list: none where it holds none.
 abbrev pub held_by : Frame → List ℕ
-held_by f = cond (taken f.part) (f.page ∷ []) []
+held_by f = cond (taken f.links.part) (f.page ∷ []) []
 
 -- Frame i is free for page p, in a table t that showed the order o and is u now. What the pager's use of p drives out
 -- is what the frame held; and once the frame is named after p, a use of p leads to the order that the pager's use of p leads to.

@@ -2,22 +2,10 @@
 ghost use Rattle.std.specs.Prelude.{◌≡◌};
 ghost use Rattle.pager.specs.Counted.{faulted, driven_out, found_in};
 
-use super::state::UseCounts;
+use super::works::UseCounts;
 use links::Part;
 
 impl UseCounts {
-    // Nothing counted yet.
-    pub(crate) fn none() -> UseCounts
-        ensures { result ≡ record { hits = 0; reclaims = 0; faults = 0; evictions = 0 } }
-    {
-        UseCounts {
-            hits: 0,
-            reclaims: 0,
-            faults: 0,
-            evictions: 0,
-        }
-    }
-
     // Counts a use of a page whose frame is in this part.
     pub(crate) fn note_found(&mut self, part: Part)
         ensures { self.new ≡ found_in part self.old }

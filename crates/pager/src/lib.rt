@@ -15,6 +15,7 @@ mod settles;
 pub mod state;
 mod transfers;
 mod uses;
+mod works;
 
 pub use opening::{NotOpened, may_page};
 pub use places::Place;

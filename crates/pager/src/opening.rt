@@ -4,17 +4,16 @@ ghost use Rattle.pager.specs.Frames.{idle};
 ghost use Rattle.pager.specs.Openings.{may_page, RefusedFor};
 ghost use Rattle.pager.specs.Settings.{untouched};
 ghost use Rattle.pager.specs.Shows.{Shows};
-ghost use Rattle.pager.specs.Ready.{Ready};
 
 use super::frame::Frame;
 use super::frames::FrameTable;
 use super::refusal::PagerRefusal;
-use super::state::{Pager, UseCounts};
-use links::Part;
+use super::state::Pager;
+use super::works::{UseCounts, Works};
 use order::TwoParts;
 use rules::TopRule;
 use std::alloc::{AllocError, Global};
-use store::PageStore;
+use store::{PageStore, Tallies};
 
 // The most frames that a pager may have.
 pub const MOST_FRAMES: usize = 64;
@@ -40,18 +39,7 @@ pub fn may_page(slots: u32, bottom: usize) -> Result<(), PagerRefusal>
 fn lay_frames(heap: Global, count: usize) -> Result<Vec<Frame>, AllocError>
     ensures { IfOk result (λ v. v.items ≡ replicate count idle) }
 {
-    let mut frames = Vec::new(heap);
-    for _n in 0..count {
-        frames.push(Frame {
-            next: None,
-            prev: None,
-            part: Part::Unused,
-            page: 0,
-            dirty: false,
-            bytes: [0; 64],
-        })?;
-    }
-    Ok(frames)
+    vec![in heap; Frame::idle(); count]
 }
 
 impl<S: PageStore, R: TopRule + Drop> Pager<S, R> {
@@ -64,10 +52,8 @@ impl<S: PageStore, R: TopRule + Drop> Pager<S, R> {
         slots: u32,
         bottom: usize,
     ) -> Result<Pager<S, R>, NotOpened<S>>
-        requires { S.PageStore.opened below }
         ensures answer { MatchResult result (λ _. may_page slots bottom ≡ Ok tt) (λ e. RefusedFor e.why slots bottom × (e.below ≡ below)) }
-        ensures ready { IfOk result (λ p. Ready S.PageStore.opened S.PageStore.meaning R.TopRule.told p) }
-        ensures fresh { IfOk result (λ p. (p.below ≡ below) × (p.fetches ≡ 0) × (p.saves ≡ 0) × Shows R.TopRule.told S.PageStore.meaning (record { first = S.PageStore.meaning below; slots = slots; bottom = bottom }) p (untouched (record { first = S.PageStore.meaning below; slots = slots; bottom = bottom }) (R.TopRule.told rule))) }
+        ensures fresh { IfOk result (λ p. (p.works.below ≡ below) × (p.tallies ≡ record { fetches = 0; saves = 0 }) × Shows R.TopRule.told S.PageStore.meaning (record { first = S.PageStore.meaning below; slots = slots; bottom = bottom }) p.works (untouched (record { first = S.PageStore.meaning below; slots = slots; bottom = bottom }) (R.TopRule.told rule))) }
     {
         if let Err(why) = may_page(slots, bottom) {
             return Err(NotOpened { why, below });
@@ -76,17 +62,17 @@ impl<S: PageStore, R: TopRule + Drop> Pager<S, R> {
             let why = PagerRefusal::NoMemory;
             return Err(NotOpened { why, below });
         };
-        let pages = below.pages();
+        let table = FrameTable {
+            frames,
+            parts: TwoParts::make(rule, slots),
+        };
         Ok(Pager {
-            below,
-            pages,
-            table: FrameTable {
-                frames,
-                parts: TwoParts::make(rule, slots),
+            works: Works {
+                below,
+                table,
+                counts: UseCounts::default(),
             },
-            counts: UseCounts::none(),
-            fetches: 0,
-            saves: 0,
+            tallies: Tallies::default(),
         })
     }
 }

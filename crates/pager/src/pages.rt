@@ -1,27 +1,22 @@
 // The pager as a store of its own.
 ghost use Rattle.pager.specs.Book.{pager_meaning};
-ghost use Rattle.pager.specs.Ready.{Ready};
 
 use super::state::Pager;
 use rules::TopRule;
-use store::{PageStore, StoreRefusal};
+use store::{PageStore, StoreRefusal, Tallies};
 
 // Its pages hold the byte book: what was last written, or else what the store below held at the opening.
 impl<S: PageStore, R: TopRule> PageStore for Pager<S, R> {
-    ghost meaning = { λ p. pager_meaning S.PageStore.meaning p };
+    ghost meaning = { λ p. pager_meaning S.PageStore.meaning p.works p.tallies };
 
-    ghost opened = { λ p. Ready S.PageStore.opened S.PageStore.meaning R.TopRule.told p };
+    ghost sized = { λ p. p.sized };
 
     fn pages(&self) -> usize {
-        self.pages
+        self.works.below.pages()
     }
 
-    fn fetches(&self) -> u32 {
-        self.fetches
-    }
-
-    fn saves(&self) -> u32 {
-        self.saves
+    fn tallies(&self) -> Tallies {
+        self.tallies
     }
 
     fn fetch(&mut self, page: usize, buffer: &mut [u8]) -> Result<(), StoreRefusal> {

@@ -2,22 +2,19 @@
 ghost use Rattle.std.specs.Prelude.{◌≡◌};
 ghost use Rattle.pager.specs.Openings.{refusal_number};
 
+// The reasons, with the number by which each is known.
 #[derive(Clone, Copy, PartialEq, Eq, Debug)]
 pub enum PagerRefusal {
     // The top has no slot, or there would be more than 64 frames.
-    FrameCount,
+    FrameCount = 4,
     // There is no memory for the frames.
-    NoMemory,
+    NoMemory = 8,
 }
 
-impl PagerRefusal {
-    // The number by which a refusal is known.
-    pub fn number(self) -> u32
-        ensures { result ≡ refusal_number self }
-    {
-        match self {
-            PagerRefusal::FrameCount => 4,
-            PagerRefusal::NoMemory => 8,
-        }
+impl From<PagerRefusal> for u32 {
+    ghost from_gives = { λ e n. n ≡ refusal_number e };
+
+    fn from(refusal: PagerRefusal) -> u32 {
+        refusal as u32
     }
 }

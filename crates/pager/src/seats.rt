@@ -3,7 +3,7 @@ ghost use Rattle.std.specs.Prelude.{◌≡◌, ℕ, ◌+◌, ◌<◌, ◌≤◌,
 ghost use Rattle.model.specs.Order.{Order, rule_of, used};
 ghost use Rattle.model.specs.Sound.{Sound};
 ghost use Rattle.pager.specs.Frames.{at, page_in, taken, In, Absent};
-ghost use Rattle.pager.specs.Framed.{Framed, Alone, SameContents, renamed, marked, Sat, Released, Left, Slotted};
+ghost use Rattle.pager.specs.Framed.{Framed, Alone, SameContents, renamed, Sat, Released, Left, Slotted};
 ghost use Rattle.pager.specs.Vacant.{Vacant, Taken};
 
 use super::frames::FrameTable;
@@ -34,16 +34,6 @@ impl<R: TopRule> FrameTable<R> {
         frame.dirty = false;
     }
 
-    // Marks the page of a frame as dirty or clean.
-    pub(crate) fn mark(&mut self, i: usize, dirty: bool)
-        requires within { i < vec_len self.old.frames }
-        ensures wrote { self.new.frames.items ≡ slice_set self.old.frames.items i (marked dirty (at self.old.frames.items i)) }
-        ensures parts { self.new.parts ≡ self.old.parts }
-    {
-        let frame = &mut self.frames[i];
-        frame.dirty = dirty;
-    }
-
     // Takes the oldest frame of the bottom out of the order.
     pub(crate) fn release_last(&mut self) -> Option<usize>
         ensures step { (o : Order) → Framed R.TopRule.told self.old.parts self.old.frames.items o → MatchOption result (o.bottom ≡ []) (λ i. Released R.TopRule.told self.old.frames.items o i self.new.parts self.new.frames.items) }
@@ -67,7 +57,7 @@ impl<R: TopRule> FrameTable<R> {
     // The frame whose page is driven out where every frame holds one: that of the last page of the bottom,
     // or, without a bottom, that of the slot that the rule names. Its page is still in it.
     pub(crate) fn vacate(&mut self) -> usize
-        requires full { (j : ℕ) → j < length self.old.frames.items → taken (at self.old.frames.items j).part ≡ true }
+        requires full { (j : ℕ) → j < length self.old.frames.items → taken (at self.old.frames.items j).links.part ≡ true }
         ensures step { (n l p : ℕ) (o : Order) → Framed R.TopRule.told self.old.parts self.old.frames.items o → Sound n self.old.parts.slots o → length self.old.frames.items ≡ self.old.parts.slots + l → Absent self.old.frames.items p → Vacant R.TopRule.told (rule_of R.TopRule.slot R.TopRule.next) self.old.parts.slots l self.old.frames.items o p result self.new.parts self.new.frames.items }
         ensures held { (l : ℕ) (o : Order) → Framed R.TopRule.told self.old.parts self.old.frames.items o → length self.old.frames.items ≡ self.old.parts.slots + l → In self.old.frames.items (page_in self.old.frames.items result) result }
         ensures same { SameContents self.old.frames.items self.new.frames.items }

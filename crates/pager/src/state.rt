@@ -1,29 +1,20 @@
 // What a pager keeps.
-use super::frames::FrameTable;
+ghost use Rattle.store.specs.Sized.{Sized};
+ghost use Rattle.pager.specs.Book.{book_of};
+ghost use Rattle.pager.specs.Ready.{Ready};
 
-// How often a page was used where it was, and how often one left the bottom at its end; all modulo 2^32.
-#[derive(Clone, Copy)]
-pub(crate) struct UseCounts {
-    // uses of a page in the top
-    pub(crate) hits: u32,
-    // uses of a page in the bottom
-    pub(crate) reclaims: u32,
-    // uses of a page in neither part
-    pub(crate) faults: u32,
-    // pages that left the bottom at its end
-    pub(crate) evictions: u32,
-}
+use super::works::Works;
+use rules::TopRule;
+use store::{PageStore, Tallies};
 
-// Pages of a store below in frames, some of them in the slots of a top and the others in a bottom.
+// Pages of a store below in frames, some of them in the slots of a top and the others in a bottom, with the reads and
+// the writes that were accepted.
 #[derive(Drop)]
-pub struct Pager<S, R> {
-    pub(crate) below: S,
-    // how many pages the store below has
-    pub(crate) pages: usize,
-    pub(crate) table: FrameTable<R>,
-    pub(crate) counts: UseCounts,
-    // reads that were accepted, modulo 2^32
-    pub(crate) fetches: u32,
-    // writes that were accepted, modulo 2^32
-    pub(crate) saves: u32,
+pub struct Pager<S: PageStore, R: TopRule> {
+    pub(crate) works: Works<S, R>,
+    pub(crate) tallies: Tallies,
+    // the model that it shows is not told by its fields, so the fact is truncated
+    pub ghost ready: { ∥ Ready S.PageStore.meaning R.TopRule.told works ∥₁ },
+    // what `ready` says of the pages, for the law of every store
+    pub ghost sized: { Sized (book_of S.PageStore.meaning works) },
 }

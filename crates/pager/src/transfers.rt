@@ -9,33 +9,23 @@ use store::PageStore;
 impl Frame {
     // Saves the page below if it is dirty. It is clean then.
     pub(crate) fn save_to<S: PageStore>(&mut self, below: &mut S)
-        requires opened { S.PageStore.opened below.old }
         requires there { self.old.page < length (S.PageStore.meaning below.old).bytes }
-        ensures opened { S.PageStore.opened below.new }
         ensures below { S.PageStore.meaning below.new ≡ flushed self.old (S.PageStore.meaning below.old) }
         ensures frame { self.new ≡ cleaned self.old }
     {
         if self.dirty {
-            match below.save(self.page, &self.bytes) {
-                Ok(()) => {}
-                Err(_) => unreachable(),
-            }
+            below.save(self.page, &self.bytes).unwrap();
             self.dirty = false;
         }
     }
 
     // Fetches the page's bytes from below.
     pub(crate) fn fetch_from<S: PageStore>(&mut self, below: &mut S)
-        requires opened { S.PageStore.opened below.old }
         requires there { self.old.page < length (S.PageStore.meaning below.old).bytes }
-        ensures opened { S.PageStore.opened below.new }
         ensures below { S.PageStore.meaning below.new ≡ fetched (S.PageStore.meaning below.old) }
         ensures frame { self.new ≡ filled (slice_index_or (S.PageStore.meaning below.old).bytes self.old.page []) self.old }
     {
-        match below.fetch(self.page, &mut self.bytes) {
-            Ok(()) => {}
-            Err(_) => unreachable(),
-        }
+        below.fetch(self.page, &mut self.bytes).unwrap();
     }
 
     // Gives the page's bytes to the caller.

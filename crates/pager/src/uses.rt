@@ -1,8 +1,7 @@
 // The uses of a pager: reads and writes.
-ghost use Rattle.std.specs.Prelude.{◌≡◌, ℕ, ◌<◌, true, false, not, ◌≢◌, length, is_ok};
+ghost use Rattle.std.specs.Prelude.{◌≡◌, ℕ, ◌<◌, true, false, ◌≢◌, length, is_ok};
 ghost use Rattle.store.specs.Uses.{Fetched, Saved};
 ghost use Rattle.model.specs.Order.{rule_of};
-ghost use Rattle.model.specs.Pager.{holds};
 ghost use Rattle.model.specs.Bytes.{Paged, paged_read, paged_write, given};
 ghost use Rattle.pager.specs.Frames.{at, page_in, contents, taken, In, Absent, flushed};
 ghost use Rattle.pager.specs.Counted.{driven_out};
@@ -13,39 +12,30 @@ ghost use Rattle.pager.specs.Ready.{Ready};
 ghost use Rattle.pager.specs.Touched.{touched};
 ghost use Rattle.pager.specs.Vacant.{Vacant};
 ghost use Rattle.pager.specs.Roomy.{Roomy};
-ghost use Rattle.pager.specs.Rest.{SameRest};
 
 use super::seeks::{frame_of, free_frame};
 use super::state::Pager;
+use super::works::Works;
 use rules::TopRule;
 use store::{PageStore, StoreRefusal, may_use};
 
-// The frame of a page, and whether the page had none before.
-#[derive(Clone, Copy)]
-struct Held {
-    frame: usize,
-    new: bool,
-}
-
-impl<S: PageStore, R: TopRule> Pager<S, R> {
+impl<S: PageStore, R: TopRule> Works<S, R> {
     // A use of the page that frame `i` holds.
     fn touch(&mut self, i: usize)
-        requires ready { Ready S.PageStore.opened S.PageStore.meaning R.TopRule.told self.old }
+        requires ready { ∥ Ready S.PageStore.meaning R.TopRule.told self.old ∥₁ }
         requires held { In (frames_of self.old) (page_in (frames_of self.old) i) i }
         ensures shows { (s : Setting) (w : Paged) → Shows R.TopRule.told S.PageStore.meaning s self.old w → Shows R.TopRule.told S.PageStore.meaning s self.new (touched (rule_of R.TopRule.slot R.TopRule.next) s.slots s.bottom (page_in (frames_of self.old) i) (at (frames_of self.new) i).bytes w) }
         ensures here { In (frames_of self.new) (page_in (frames_of self.old) i) i }
         ensures below { self.new.below ≡ self.old.below }
-        ensures rest { SameRest self.old self.new }
     {
-        self.counts.note_found(self.table.frames[i].part);
+        self.counts.note_found(self.table.frames[i].links.part);
         self.table.seat(i);
     }
 
     // The frame whose page is driven out where every frame holds one. The page is saved below if it is dirty.
     fn evict(&mut self) -> usize
-        requires ready { Ready S.PageStore.opened S.PageStore.meaning R.TopRule.told self.old }
-        requires full { (j : ℕ) → j < length (frames_of self.old) → taken (at (frames_of self.old) j).part ≡ true }
-        ensures opened { S.PageStore.opened self.new.below }
+        requires ready { ∥ Ready S.PageStore.meaning R.TopRule.told self.old ∥₁ }
+        requires full { (j : ℕ) → j < length (frames_of self.old) → taken (at (frames_of self.old) j).links.part ≡ true }
         ensures below { S.PageStore.meaning self.new.below ≡ flushed (at (frames_of self.old) result) (S.PageStore.meaning self.old.below) }
         ensures held { In (frames_of self.old) (page_in (frames_of self.old) result) result }
         ensures vacant { (s : Setting) (w : Paged) (p : ℕ) → Shows R.TopRule.told S.PageStore.meaning s self.old w → Absent (frames_of self.old) p → Vacant R.TopRule.told (rule_of R.TopRule.slot R.TopRule.next) s.slots s.bottom (frames_of self.old) w.pager.order p result self.new.table.parts (frames_of self.new) }
@@ -53,7 +43,6 @@ impl<S: PageStore, R: TopRule> Pager<S, R> {
         ensures long { length (frames_of self.new) ≡ length (frames_of self.old) }
         ensures slots { self.new.table.parts.slots ≡ self.old.table.parts.slots }
         ensures counts { self.new.counts ≡ driven_out self.old.counts }
-        ensures rest { SameRest self.old self.new }
     {
         let i = self.table.vacate();
         self.table.save(i, &mut self.below);
@@ -63,10 +52,8 @@ impl<S: PageStore, R: TopRule> Pager<S, R> {
 
     // A frame for a page that has none: a free one, or that of a page that is driven out.
     fn make_room(&mut self) -> usize
-        requires ready { Ready S.PageStore.opened S.PageStore.meaning R.TopRule.told self.old }
-        ensures opened { S.PageStore.opened self.new.below }
+        requires ready { ∥ Ready S.PageStore.meaning R.TopRule.told self.old ∥₁ }
         ensures room { (s : Setting) (w : Paged) (p : ℕ) → Shows R.TopRule.told S.PageStore.meaning s self.old w → p < pages_of s → Absent (frames_of self.old) p → Roomy R.TopRule.told S.PageStore.meaning (rule_of R.TopRule.slot R.TopRule.next) s self.old self.new w p result }
-        ensures rest { SameRest self.old self.new }
     {
         match free_frame(&self.table.frames) {
             Some(i) => i,
@@ -76,13 +63,11 @@ impl<S: PageStore, R: TopRule> Pager<S, R> {
 
     // A use of a page that has no frame: it gets one, which still has the bytes of before.
     fn admit(&mut self, page: usize) -> usize
-        requires ready { Ready S.PageStore.opened S.PageStore.meaning R.TopRule.told self.old }
-        requires low { page < self.old.pages }
+        requires ready { ∥ Ready S.PageStore.meaning R.TopRule.told self.old ∥₁ }
+        requires low { page < length (S.PageStore.meaning self.old.below).bytes }
         requires absent { Absent (frames_of self.old) page }
-        ensures opened { S.PageStore.opened self.new.below }
         ensures shows { (s : Setting) (w : Paged) → Shows R.TopRule.told S.PageStore.meaning s self.old w → Shows R.TopRule.told S.PageStore.meaning s self.new (touched (rule_of R.TopRule.slot R.TopRule.next) s.slots s.bottom page (at (frames_of self.new) result).bytes w) }
         ensures here { In (frames_of self.new) page result }
-        ensures rest { SameRest self.old self.new }
     {
         let i = self.make_room();
         self.table.occupy(i, page);
@@ -91,71 +76,68 @@ impl<S: PageStore, R: TopRule> Pager<S, R> {
     }
 
     // A use of a page before its bytes move: it has a frame in the top then.
-    fn hold(&mut self, page: usize) -> Held
-        requires ready { Ready S.PageStore.opened S.PageStore.meaning R.TopRule.told self.old }
-        requires low { page < self.old.pages }
-        ensures opened { S.PageStore.opened self.new.below }
-        ensures shows { (s : Setting) (w : Paged) → Shows R.TopRule.told S.PageStore.meaning s self.old w → Shows R.TopRule.told S.PageStore.meaning s self.new (touched (rule_of R.TopRule.slot R.TopRule.next) s.slots s.bottom page (at (frames_of self.new) result.frame).bytes w) }
-        ensures found { (s : Setting) (w : Paged) → Shows R.TopRule.told S.PageStore.meaning s self.old w → holds page w.pager.order ≡ not result.new }
-        ensures here { In (frames_of self.new) page result.frame }
-        ensures rest { SameRest self.old self.new }
+    fn hold(&mut self, page: usize) -> usize
+        requires ready { ∥ Ready S.PageStore.meaning R.TopRule.told self.old ∥₁ }
+        requires low { page < length (S.PageStore.meaning self.old.below).bytes }
+        ensures shows { (s : Setting) (w : Paged) → Shows R.TopRule.told S.PageStore.meaning s self.old w → Shows R.TopRule.told S.PageStore.meaning s self.new (touched (rule_of R.TopRule.slot R.TopRule.next) s.slots s.bottom page (at (frames_of self.new) result).bytes w) }
+        ensures here { In (frames_of self.new) page result }
     {
         match frame_of(&self.table.frames, page) {
             Some(frame) => {
                 self.touch(frame);
-                Held { frame, new: false }
+                frame
+            }
+            None => self.admit(page),
+        }
+    }
+
+    // A read of a page before the caller gets its bytes: they are in its frame. Not by way of `hold`, which would have to tell
+    // whether the page had a frame before, so that one that had none is fetched.
+    fn load(&mut self, page: usize) -> usize
+        requires ready { ∥ Ready S.PageStore.meaning R.TopRule.told self.old ∥₁ }
+        requires low { page < length (S.PageStore.meaning self.old.below).bytes }
+        ensures shows { (s : Setting) (w : Paged) → Shows R.TopRule.told S.PageStore.meaning s self.old w → Shows R.TopRule.told S.PageStore.meaning s self.new (paged_read (rule_of R.TopRule.slot R.TopRule.next) s.slots s.bottom page w) }
+        ensures here { In (frames_of self.new) page result }
+    {
+        match frame_of(&self.table.frames, page) {
+            Some(held) => {
+                self.touch(held);
+                held
             }
             None => {
                 let frame = self.admit(page);
-                Held { frame, new: true }
+                self.table.fetch(frame, &mut self.below);
+                frame
             }
         }
     }
+}
 
-    // A read of a page before the caller gets its bytes: they are in its frame.
-    fn load(&mut self, page: usize) -> usize
-        requires ready { Ready S.PageStore.opened S.PageStore.meaning R.TopRule.told self.old }
-        requires low { page < self.old.pages }
-        ensures opened { S.PageStore.opened self.new.below }
-        ensures shows { (s : Setting) (w : Paged) → Shows R.TopRule.told S.PageStore.meaning s self.old w → Shows R.TopRule.told S.PageStore.meaning s self.new (paged_read (rule_of R.TopRule.slot R.TopRule.next) s.slots s.bottom page w) }
-        ensures here { In (frames_of self.new) page result }
-        ensures rest { SameRest self.old self.new }
-    {
-        let held = self.hold(page);
-        if held.new {
-            self.table.fetch(held.frame, &mut self.below);
-        }
-        held.frame
-    }
-
+impl<S: PageStore, R: TopRule> Pager<S, R> {
     // Gives the bytes of a page into the buffer.
     pub fn read(&mut self, page: usize, buffer: &mut [u8]) -> Result<(), StoreRefusal>
-        requires { Ready S.PageStore.opened S.PageStore.meaning R.TopRule.told self.old }
-        ensures ready { Ready S.PageStore.opened S.PageStore.meaning R.TopRule.told self.new }
-        ensures effect { Fetched (pager_meaning S.PageStore.meaning self.old) page buffer.old result (pager_meaning S.PageStore.meaning self.new) buffer.new }
+        ensures effect { Fetched (pager_meaning S.PageStore.meaning self.old.works self.old.tallies) page buffer.old result (pager_meaning S.PageStore.meaning self.new.works self.new.tallies) buffer.new }
         ensures refused { is_ok result ≡ false → self.new ≡ self.old }
-        ensures step { (s : Setting) (w : Paged) → Shows R.TopRule.told S.PageStore.meaning s self.old w → is_ok result ≡ true → Shows R.TopRule.told S.PageStore.meaning s self.new (paged_read (rule_of R.TopRule.slot R.TopRule.next) s.slots s.bottom page w) }
-        ensures bytes { (s : Setting) (w : Paged) → Shows R.TopRule.told S.PageStore.meaning s self.old w → is_ok result ≡ true → buffer.new ≡ given (rule_of R.TopRule.slot R.TopRule.next) s.slots s.bottom page w }
+        ensures step { (s : Setting) (w : Paged) → Shows R.TopRule.told S.PageStore.meaning s self.old.works w → is_ok result ≡ true → Shows R.TopRule.told S.PageStore.meaning s self.new.works (paged_read (rule_of R.TopRule.slot R.TopRule.next) s.slots s.bottom page w) }
+        ensures bytes { (s : Setting) (w : Paged) → Shows R.TopRule.told S.PageStore.meaning s self.old.works w → is_ok result ≡ true → buffer.new ≡ given (rule_of R.TopRule.slot R.TopRule.next) s.slots s.bottom page w }
     {
-        may_use(self.pages, page, buffer.len())?;
-        let frame = self.load(page);
-        self.table.give(frame, buffer);
-        self.fetches = self.fetches.wrapping_add(1);
+        may_use(self.works.below.pages(), page, buffer.len())?;
+        let frame = self.works.load(page);
+        self.works.table.give(frame, buffer);
+        self.tallies.note_fetch();
         Ok(())
     }
 
     // Replaces the bytes of a page by the buffer's.
     pub fn write(&mut self, page: usize, buffer: &[u8]) -> Result<(), StoreRefusal>
-        requires { Ready S.PageStore.opened S.PageStore.meaning R.TopRule.told self.old }
-        ensures ready { Ready S.PageStore.opened S.PageStore.meaning R.TopRule.told self.new }
-        ensures effect { Saved (pager_meaning S.PageStore.meaning self.old) page buffer.now result (pager_meaning S.PageStore.meaning self.new) }
+        ensures effect { Saved (pager_meaning S.PageStore.meaning self.old.works self.old.tallies) page buffer.now result (pager_meaning S.PageStore.meaning self.new.works self.new.tallies) }
         ensures refused { is_ok result ≡ false → self.new ≡ self.old }
-        ensures step { (s : Setting) (w : Paged) → Shows R.TopRule.told S.PageStore.meaning s self.old w → is_ok result ≡ true → Shows R.TopRule.told S.PageStore.meaning s self.new (paged_write (rule_of R.TopRule.slot R.TopRule.next) s.slots s.bottom page buffer.now w) }
+        ensures step { (s : Setting) (w : Paged) → Shows R.TopRule.told S.PageStore.meaning s self.old.works w → is_ok result ≡ true → Shows R.TopRule.told S.PageStore.meaning s self.new.works (paged_write (rule_of R.TopRule.slot R.TopRule.next) s.slots s.bottom page buffer.now w) }
     {
-        may_use(self.pages, page, buffer.len())?;
-        let held = self.hold(page);
-        self.table.take(held.frame, buffer);
-        self.saves = self.saves.wrapping_add(1);
+        may_use(self.works.below.pages(), page, buffer.len())?;
+        let frame = self.works.hold(page);
+        self.works.table.take(frame, buffer);
+        self.tallies.note_save();
         Ok(())
     }
 }

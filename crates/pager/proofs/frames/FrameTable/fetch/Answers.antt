@@ -9,4 +9,4 @@ invariant_of-self g c =
     let v = c.args.self.now.frames in
     let low : c.args.i < length (vec_items v) = omega (arith, c.requires.within, v.ok.0) in
     let is = c.fetch_from.ensures.frame in
-    record { seated = ∥∥₁_map c.args.self.now.seated (seated_lent c.args.self.now.parts (vec_items v) c.args.i c.index_mut.result.now c.fetch_from.new.self low c.index_mut.ensures.value (ap (λ (f : Frame). f.next) is) (ap (λ (f : Frame). f.prev) is) (ap (λ (f : Frame). f.part) is) (ap (λ (f : Frame). f.page) is)) }
+    record { seated = ∥∥₁_map c.args.self.now.seated (seated_lent c.args.self.now.parts (vec_items v) c.args.i c.index_mut.result.now c.fetch_from.new.self low c.index_mut.ensures.value (ap (λ (f : Frame). f.links.next) is) (ap (λ (f : Frame). f.links.prev) is) (ap (λ (f : Frame). f.links.part) is) (ap (λ (f : Frame). f.page) is)) }

@@ -1,29 +1,25 @@
-use Rattle.std.proofs.Common.{◌+◌, refl, rules}
-use Rattle.model.proofs.Bytes.{kept_fresh}
-use Rattle.pager.specs.Settings.{Setting, first_bytes, untouched, pages_of}
-use Rattle.pager.proofs.Fresh.{fresh_seated, fresh_frames, fresh_shows}
+use Rattle.std.proofs.Common.{◌≡◌, ◌+◌, refl, rules}
+use Rattle.pager.specs.Settings.{Setting}
+use Rattle.pager.proofs.Fresh.{zeros, fresh_seated, fresh_frames, fresh_shows, fresh_ready}
+use Rattle.pager.proofs.Accepting.{pager_sized}
 use Rattle.pager.proofs.state.Pager.open.Goals as goal
 
-pub invariant_of-result : goal.invariant_of-result
-invariant_of-result g c = record { seated = ∣ fresh_seated g.R.TopRule.told (g.R.TopRule.told c.args.rule) c.make.result (c.args.slots + c.args.bottom) _ c.in-Ok.ensures c.make.ensures.stands ∣₁ }
+pub invariant_of-table : goal.invariant_of-table
+invariant_of-table g c = record { seated = ∣ fresh_seated g.R.TopRule.told (g.R.TopRule.told c.args.rule) c.make.result (c.args.slots + c.args.bottom) _ c.in-Ok.ensures c.make.ensures.stands ∣₁ }
 
-pub returns : goal.returns
-returns g c =
+pub invariant_of-result : goal.invariant_of-result
+invariant_of-result g c =
     let s : Setting = record { first = g.S.PageStore.meaning c.args.below; slots = c.args.slots; bottom = c.args.bottom } in
     let told = g.R.TopRule.told c.args.rule in
     let frames = fresh_frames g.R.TopRule.told told c.make.result (c.args.slots + c.args.bottom) _ c.in-Ok.ensures c.make.ensures.stands s c.make.ensures.slots refl in
-    let shows = fresh_shows g.R.TopRule.told g.S.PageStore.meaning s _ told c.pages-pages.ensures.count refl c.none.ensures frames in
-    record {
-      answer = search rules;
-      ready = record {
-        setting = s;
-        model = untouched s told;
-        book = first_bytes s;
-        store = c.requires;
-        sized = c.pages-pages.ensures.sized;
-        shows = shows;
-        kept = kept_fresh (pages_of s) s.slots told (first_bytes s);
-        long = c.pages-pages.ensures.sized.even;
-      };
-      fresh = (refl, refl, refl, shows);
-    }
+    let counts : c.default.result ≡ zeros = search rules in
+    let ready = fresh_ready g.R.TopRule.told g.S.PageStore.meaning s _ told (g.met.S.PageStore.sized c.args.below) (fresh_shows g.R.TopRule.told g.S.PageStore.meaning s _ told refl counts frames) in
+    record { ready = ready; sized = pager_sized g.S.PageStore.meaning g.R.TopRule.told _ ready }
+
+pub returns-clause-fresh : goal.returns-clause-fresh
+returns-clause-fresh g c =
+    let s : Setting = record { first = g.S.PageStore.meaning c.args.below; slots = c.args.slots; bottom = c.args.bottom } in
+    let told = g.R.TopRule.told c.args.rule in
+    let frames = fresh_frames g.R.TopRule.told told c.make.result (c.args.slots + c.args.bottom) _ c.in-Ok.ensures c.make.ensures.stands s c.make.ensures.slots refl in
+    let counts : c.default.result ≡ zeros = search rules in
+    (refl, search rules, fresh_shows g.R.TopRule.told g.S.PageStore.meaning s _ told refl counts frames)

@@ -1,9 +1,8 @@
-use Rattle.std.proofs.Common.{refl}
 use Rattle.model.specs.Order.{rule_of}
 use Rattle.pager.specs.Shows.{frames_of}
 use Rattle.pager.proofs.Touching.{rule_below}
 use Rattle.pager.proofs.Admitting.{room_free, room_evicted}
-use Rattle.pager.proofs.state.Pager.make_room.Goals as goal
+use Rattle.pager.proofs.works.Works.make_room.Goals as goal
 
 pub returns-in-Some : goal.returns-in-Some
 returns-in-Some g c =
@@ -11,21 +10,14 @@ returns-in-Some g c =
     let found = rw c.deref.ensures.value at c.in-Some.ensures in
     let rule = rule_of g.R.TopRule.slot g.R.TopRule.next in
     record {
-      opened = c.requires.ready.store;
       room = λ s w q sh low none. room_free g.R.TopRule.told g.S.PageStore.meaning rule s p w q sh (rule_below g.R.TopRule.told rule s p.table.parts (frames_of p) w sh.frames (λ state k pos. g.met.R.TopRule.below state k pos)) low none c.in-Some.i found.0 found.1;
-      rest = record { pages = refl; fetches = refl; saves = refl };
     }
-
-pub evict-requires : goal.evict-requires
-evict-requires g c = record { ready = c.requires.ready; full = rw c.deref.ensures.value at c.in-None.ensures }
 
 pub returns-in-None : goal.returns-in-None
 returns-in-None g c =
     let p = c.args.self.now in
     let rule = rule_of g.R.TopRule.slot g.R.TopRule.next in
     record {
-      opened = c.evict.ensures.opened;
       room = λ s w q sh low none. room_evicted g.R.TopRule.told g.S.PageStore.meaning rule s p w q sh (rule_below g.R.TopRule.told rule s p.table.parts (frames_of p) w sh.frames (λ state k pos. g.met.R.TopRule.below state k pos)) low none c.evict.new.self c.evict.result
           c.evict.ensures.held (c.evict.ensures.vacant s w q sh none) c.evict.ensures.others c.evict.ensures.long c.evict.ensures.slots c.evict.ensures.below c.evict.ensures.counts;
-      rest = c.evict.ensures.rest;
     }

@@ -1,5 +1,0 @@
-use Rattle.pager.specs.Settling.{Settling}
-use Rattle.pager.proofs.state.Pager.settle.Given as goal
-
-abbrev pub invariant-loop-page : goal.invariant-loop-page
-invariant-loop-page g l = Settling g.S.PageStore.opened g.S.PageStore.meaning g.R.TopRule.told l.initial.self l.self l.page
