@@ -4,14 +4,14 @@ use Rattle.std.specs.Int.{is_in_range, IsInRange}
 use Rattle.std.specs.List.{suffix_len}
 use Rattle.std.proofs.lemmas.Bool.Decides.{nat_tests}
 use Rattle.std.proofs.lemmas.Bool.{cases_eq}
-use Rattle.std.proofs.lemmas.List.Sums.{suffix_len-le-length}
+use Rattle.std.proofs.lemmas.List.Sums.{suffix_len-le-length, suffix_len_is}
 use Rattle.std.proofs.lemmas.Str.Parse.{IsNumeralModel, numerals_by_fold, tells_by_index}
 use Rattle.std.proofs.lemmas.Fmt.{decimal-digits_value, digits_value-decimal, digits_decimal, first_decimal, decimal_nonempty, decimal_digit}
 use Rattle.std.proofs.lemmas.List.{get_or-drop, length-drop, length-take-le, length-append, length-replicate, get_or-replicate, get_or_append_left, get_or-append_right, take-append-drop, take_at, drop_at}
 use Rattle.fields.specs.declared.FieldFault.{FieldFault}
 use Rattle.fields.specs.Numbers.{digits_at_end, digits_from, digits_of, stray_end, read_on, scanned, read_number}
 use Rattle.fields.specs.Justified.{justified, Exact}
-use Rattle.fields.proofs.Runs.{ending_in, ending_is, spaces_are}
+use Rattle.fields.proofs.Runs.{ending_in, spaces_are}
 
 abbrev pub AllDigits : List ℕ → Type 0
 AllDigits ds = (i : ℕ) → i < length ds → IsInRange 48 57 (get_or ds i 0)
@@ -50,18 +50,19 @@ read_is f some spaces first small =
 pub written_digits : (n v : ℕ) → v < 2 ^ 32 → digits_at_end (replicate n 32 ++ decimal v) ≡ length (decimal v)
 written_digits n v small =
     let l : length (replicate {A = ℕ} n 32 ++ decimal v) ≡ n + length (decimal v) = length-append (replicate {A = ℕ} n 32) (decimal v) ∙ ap (λ j. j + length (decimal v)) (length-replicate {A = ℕ} n 32) in
-    ending_is (is_in_range 48 57) (replicate n 32 ++ decimal v) (length (decimal v)) (omega arith)
-    (λ i h far. ap (is_in_range 48 57) (get_or-append_right (replicate n 32) (decimal v) n i 0 (length-replicate n 32) (omega arith)) ∙ in_digit _ (digits_decimal own v (omega arith) (i - n) (omega arith)))
-    (λ h. let i : ℕ = length (replicate {A = ℕ} n 32 ++ decimal v) - 1 - length (decimal v) in
-    ap (is_in_range 48 57) (get_or_append_left (replicate n 32) (decimal v) 0 i (omega (arith, length-replicate {A = ℕ} n 32)) ∙ get_or-replicate n i 32 0 (omega arith)))
+    suffix_len_is (is_in_range 48 57) (replicate n 32 ++ decimal v) n 0 (omega arith)
+    (λ i far h. ap (is_in_range 48 57) (get_or-append_right (replicate n 32) (decimal v) n i 0 (length-replicate n 32) far) ∙ in_digit _ (digits_decimal own v (omega arith) (i - n) (omega arith)))
+    (λ h. ap (is_in_range 48 57) (get_or_append_left (replicate n 32) (decimal v) 0 (n - 1) (omega (arith, length-replicate {A = ℕ} n 32)) ∙ get_or-replicate n (n - 1) 32 0 (omega arith)))
+    ∙ omega (arith, l)
 
 -- Spaces alone are a run of spaces.
 spaces_run : (n : ℕ) → suffix_len (is_in_range 32 32) (replicate n 32) ≡ n
 spaces_run n =
     let l = length-replicate {A = ℕ} n 32 in
-    ending_is (is_in_range 32 32) (replicate n 32) n (omega arith)
-    (λ i h far. ap (is_in_range 32 32) (get_or-replicate n i 32 0 (omega arith)))
+    suffix_len_is (is_in_range 32 32) (replicate n 32) 0 0 (omega arith)
+    (λ i far h. ap (is_in_range 32 32) (get_or-replicate n i 32 0 (omega arith)))
     (λ h. absurd (omega arith))
+    ∙ omega (arith, l)
 
 -- The digits of a number of several digits do not begin with 0.
 no_leading_zero : (v : ℕ) → v < 2 ^ 32 → 1 < length (decimal v) → get_or (decimal v) 0 0 ≡ 48 → ⊥
@@ -118,4 +119,4 @@ pub exact : (line column : ℕ) (f : List ℕ) (r : Result ℕ FieldFault) → r
 exact line column f (Ok v) e = write_back line column f v (sym e)
 exact line column f (Err x) e = λ v small is.
     let h = read_back line column f v small is in
-    let z : ◌≡◌ {A = ℕ} 0 1 = cc in omega arith
+    grind arith

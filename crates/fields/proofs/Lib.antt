@@ -1,4 +1,4 @@
-pub mod Ends
 pub mod Values
 pub mod Runs
 pub mod Exact
+pub mod Printed

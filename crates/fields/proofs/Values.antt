@@ -1,13 +1,10 @@
 -- The number that digits write, one digit at a time.
 use Rattle.std.proofs.Common.{◌≡◌, ℕ, ◌+◌, ◌-◌, ◌*◌, ◌<◌, ◌≤◌, List, [], ◌∷◌, length, get_or, drop, arith}
-use Rattle.std.proofs.lemmas.List.{at_drop_more, at_drop_all}
+use Rattle.std.proofs.lemmas.List.{at_drop_more}
 use Rattle.fields.specs.Numbers.{read_on}
 
 pub read_on_more : (n : ℕ) (xs : List ℕ) (i : ℕ) → i < length xs → read_on n (drop i xs) ≡ read_on (n * 10 + (get_or xs i 0 - 48)) (drop (i + 1) xs)
 read_on_more n xs i h = at_drop_more (read_on n) xs i 0 h
-
-pub read_on_all : (n : ℕ) (xs : List ℕ) (i : ℕ) → length xs ≤ i → read_on n (drop i xs) ≡ n
-read_on_all n xs i h = at_drop_all (read_on n) xs i h
 
 -- More digits never make a number smaller.
 pub read_on_ge : (n : ℕ) (xs : List ℕ) → n ≤ read_on n xs

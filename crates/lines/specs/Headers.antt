@@ -36,7 +36,7 @@ abbrev pub header_from : Parts → Result Header LineFault
 header_from (header_parts pages top rule seed) =
     with_field (number_in pages) (λ p. with_field (number_in top) (λ t. with_field (number_in seed) (λ s.
     in_range (record { pages = p; top = t; rule = rule; seed = s }))))
-header_from (use_parts letter page) = Err (Shape HeaderPlace 1 0)
+header_from (use_parts kind page) = Err (Shape HeaderPlace 1 0)
 header_from settle_parts = Err (Shape HeaderPlace 1 0)
 
 -- The header on line 1.

@@ -4,58 +4,51 @@
 ghost use Rattle.std.specs.Prelude.{◌≡◌, IfOk};
 ghost use Rattle.std.specs.Result.{result_map_both};
 ghost use Rattle.lines.specs.Problems.{number_of};
+ghost use Rattle.lines.specs.Kinds.{letter_of, kind_by, length_of};
 ghost use Rattle.lines.specs.Parts.{parts_of};
 ghost use Rattle.lines.specs.Cuts.{cut_line};
 ghost use Rattle.lines.specs.Headers.{in_range, header_from, header_of};
 ghost use Rattle.lines.specs.Calls.{call_from, call_of};
 ghost use Rattle.lines.specs.Fit.{HeaderFit, CallFit};
+ghost use Rattle.lines.specs.Meant.{call_in};
 ghost use Rattle.lines.specs.declared.LineFault.TheVariants.{Field as FieldInside, Shape};
 
 use fields::{Field, FieldFault};
+use model::{Call, UseKind};
 use rules::{Lottery, Oldest, TopRule};
 
-// Why a line is no line of a recording.
-#[derive(Clone, Copy)]
+// Why a line is no line of a recording, with the number by which each problem is told.
+#[derive(Clone, Copy, PartialEq, Eq, Debug)]
 pub enum LineProblem {
     // The first letter is none of H, R, W and S, or the line is empty.
-    UnknownLetter,
+    UnknownLetter = 21,
     // The line is longer or shorter than its kind.
-    WrongLength,
+    WrongLength = 22,
     // Line 1 is no header, or a later line is one.
-    HeaderPlace,
+    HeaderPlace = 23,
     // No byte 10 ends the line.
-    NoEnd,
+    NoEnd = 24,
     // The header's page count is not from 1 to 512.
-    PageCount,
+    PageCount = 31,
     // The header's top is not from 1 to 64.
-    TopSize,
+    TopSize = 32,
     // The header's letter is that of no rule.
-    RuleLetter,
+    RuleLetter = 33,
     // The page of a use is not below the header's page count.
-    NoSuchPage,
+    NoSuchPage = 34,
 }
 
-impl LineProblem {
-    // The number by which the problem is told.
-    pub fn number(&self) -> u8
-        ensures { result ≡ number_of self.now }
-    {
-        match self {
-            LineProblem::UnknownLetter => 21,
-            LineProblem::WrongLength => 22,
-            LineProblem::HeaderPlace => 23,
-            LineProblem::NoEnd => 24,
-            LineProblem::PageCount => 31,
-            LineProblem::TopSize => 32,
-            LineProblem::RuleLetter => 33,
-            LineProblem::NoSuchPage => 34,
-        }
+impl From<LineProblem> for u8 {
+    ghost from_gives = { λ p n. n ≡ number_of p };
+
+    fn from(problem: LineProblem) -> u8 {
+        problem as u8
     }
 }
 
 // What is wrong with a line: a fault of one of its fields, or a problem of its own at its place.
-// Column 0 stands for the line as a whole.
-#[derive(Clone, Copy)]
+// Column 0 stands for the line as a whole, as it is told: an Option would only be taken apart to print that 0.
+#[derive(Clone, Copy, PartialEq, Eq, Debug)]
 pub enum LineFault {
     Field(FieldFault),
     Shape {
@@ -79,30 +72,94 @@ pub enum Line<'a> {
     Header {
         pages: Field<'a>,
         top: Field<'a>,
+        // A byte, as it stands: whether it is the letter of a rule is told after the numbers.
         rule: u8,
         seed: Field<'a>,
     },
     Use {
-        letter: u8,
+        kind: UseKind,
         page: Field<'a>,
     },
     Settle,
 }
 
-// What line 1 tells: the page count, the size of the top, the letter of its rule and the seed.
+// The kinds of lines, of which each has its first letter and its length: what is known before a line is cut.
 #[derive(Clone, Copy)]
+enum LineKind {
+    Header,
+    Use(UseKind),
+    Settle,
+}
+
+impl LineKind {
+    // The kind of the lines that begin with a letter, if there is one. No `TryFrom`: the fault of an unknown letter has the line's
+    // number, which the letter does not know.
+    fn by(letter: u8) -> Option<LineKind>
+        ensures { result ≡ kind_by letter }
+    {
+        match letter {
+            b'H' => Some(LineKind::Header),
+            b'R' => Some(LineKind::Use(UseKind::Read)),
+            b'W' => Some(LineKind::Use(UseKind::Write)),
+            b'S' => Some(LineKind::Settle),
+            _ => None,
+        }
+    }
+
+    // How long such a line is, without the byte that ends it.
+    fn length(self) -> usize
+        ensures { result ≡ length_of self }
+    {
+        match self {
+            LineKind::Header => 20,
+            LineKind::Use(_) => 6,
+            LineKind::Settle => 1,
+        }
+    }
+}
+
+// What line 1 tells: the page count, the size of the top, the letter of its rule and the seed.
+#[derive(Clone, Copy, PartialEq, Eq, Debug)]
 pub struct Header {
     pub pages: u32,
     pub top: u32,
+    // A byte and no rule: a header that is to be written may hold any, and an unknown one is refused then.
     pub rule: u8,
     pub seed: u32,
 }
 
 // A call: R or W with a page, or S with page 0.
-#[derive(Clone, Copy)]
+#[derive(Clone, Copy, PartialEq, Eq, Debug)]
 pub struct CallRecord {
+    // A byte and no kind: a call that is to be written may hold any, and an unknown one is refused then.
     pub letter: u8,
+    // 0 for a settle: another page is refused when the call is written.
     pub page: u32,
+}
+
+// The call that a record stands for. A record of a recording has no other letter than R, W and S, so that no error is left
+// for a `TryFrom` to give.
+impl From<CallRecord> for Call {
+    ghost from_gives = { λ told call. call ≡ call_in told };
+
+    fn from(record: CallRecord) -> Call {
+        let page = record.page as usize;
+        match record.letter {
+            b'R' => Call::Use(UseKind::Read, page),
+            b'W' => Call::Use(UseKind::Write, page),
+            _ => Call::Settle,
+        }
+    }
+}
+
+// The letter of the lines of each kind of use. No `From`, since neither type is of this crate.
+fn letter_of(kind: UseKind) -> u8
+    ensures { result ≡ letter_of kind }
+{
+    match kind {
+        UseKind::Read => b'R',
+        UseKind::Write => b'W',
+    }
 }
 
 // A problem of a line's own, at its place.
@@ -120,34 +177,28 @@ fn shape(problem: LineProblem, line: usize, column: usize) -> LineFault
 pub fn cut<'a>(line: usize, bytes: &'a [u8]) -> Result<Line<'a>, LineFault>
     ensures { result_map_both parts_of (λ e. e) result ≡ cut_line line bytes.now }
 {
-    let Some(letter) = bytes.first().copied() else {
+    let Some(kind) = bytes.first().and_then(|letter| LineKind::by(*letter)) else {
         return Err(shape(LineProblem::UnknownLetter, line, 1));
     };
-    let (header, length) = match letter {
-        b'H' => (true, 20),
-        b'R' | b'W' => (false, 6),
-        b'S' => (false, 1),
-        _ => return Err(shape(LineProblem::UnknownLetter, line, 1)),
-    };
-    if header != (line == 1) {
+    if matches!(kind, LineKind::Header) != (line == 1) {
         return Err(shape(LineProblem::HeaderPlace, line, 0));
     }
-    if bytes.len() != length {
+    if bytes.len() != kind.length() {
         return Err(shape(LineProblem::WrongLength, line, 0));
     }
-    match letter {
-        b'H' => Ok(Line::Header {
+    Ok(match kind {
+        LineKind::Header => Line::Header {
             pages: Field::new(&bytes[1..6], line, 2),
             top: Field::new(&bytes[6..9], line, 7),
             rule: bytes[9],
             seed: Field::new(&bytes[10..20], line, 11),
-        }),
-        b'S' => Ok(Line::Settle),
-        _ => Ok(Line::Use {
-            letter,
+        },
+        LineKind::Use(kind) => Line::Use {
+            kind,
             page: Field::new(&bytes[1..6], line, 2),
-        }),
-    }
+        },
+        LineKind::Settle => Line::Settle,
+    })
 }
 
 // The header, if what it tells is in range.
@@ -194,9 +245,10 @@ fn told_call(number: usize, pages: u32, line: Line) -> Result<CallRecord, LineFa
 {
     match line {
         Line::Header { .. } => Err(shape(LineProblem::HeaderPlace, number, 0)),
-        Line::Use { letter, page } => {
+        Line::Use { kind, page } => {
             let page = page.number()?;
             if page < pages {
+                let letter = letter_of(kind);
                 Ok(CallRecord { letter, page })
             } else {
                 Err(shape(LineProblem::NoSuchPage, number, 6))

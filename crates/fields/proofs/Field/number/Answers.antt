@@ -1,11 +1,26 @@
-use Rattle.std.proofs.Common.{◌≡◌, ℕ, List, refl, ◌∙◌}
-use Rattle.fields.specs.Numbers.{scanned, read_number}
+use Rattle.std.proofs.Common.{Ok, Err, arith}
+use Rattle.std.proofs.lemmas.Bool.Decides.{nat_tests}
+use Rattle.std.proofs.lemmas.List.{take_rest, places}
+use Rattle.fields.specs.Numbers.{read_number}
 use Rattle.fields.proofs.Exact.{exact}
 use Rattle.fields.proofs.Field.number.Goals as goal
 
-shut : (line column : ℕ) (f : List ℕ) → scanned line column f ≡ read_number line column f
+pub returns-then-from-self-clause-exact : goal.returns-then-from-self-clause-exact
 unfolding read_number
-shut line column f = refl
+returns-then-from-self-clause-exact c = exact c.args.self.now.line c.args.self.now.column _ (Err c.fault.result) (grind (arith, nat_tests))
 
-pub returns : goal.returns
-returns c = let e = c.scan.ensures ∙ shut _ _ _ in record { reads = e; exact = exact _ _ _ _ e }
+pub returns-then-spaces-gt0-clause-exact : goal.returns-then-spaces-gt0-clause-exact
+unfolding read_number
+returns-then-spaces-gt0-clause-exact c = exact c.args.self.now.line c.args.self.now.column _ (Err c.fault-then-spaces-gt0.result) (grind (arith, nat_tests, take_rest))
+
+pub returns-then-digits-eq48-clause-exact : goal.returns-then-digits-eq48-clause-exact
+unfolding read_number
+returns-then-digits-eq48-clause-exact c = exact c.args.self.now.line c.args.self.now.column _ (Err c.fault-then-digits-eq48.result) (grind (arith, nat_tests, take_rest, places))
+
+pub returns-in-Some-clause-exact : goal.returns-in-Some-clause-exact
+unfolding read_number
+returns-in-Some-clause-exact c = exact c.args.self.now.line c.args.self.now.column _ (Ok c.in-Some.value) (grind (arith, nat_tests, take_rest, places))
+
+pub returns-in-None-clause-exact : goal.returns-in-None-clause-exact
+unfolding read_number
+returns-in-None-clause-exact c = exact c.args.self.now.line c.args.self.now.column _ (Err c.fault-in-None.result) (grind (arith, nat_tests, take_rest, places))
