@@ -1,5 +1,5 @@
 -- What an accepted recording is.
-use Rattle.std.proofs.Common.{◌≡◌, ℕ, ◌+◌, ◌<◌, ◌≤◌, ltb, List, length, Ok, Err, Result, sym, refl, ap, ◌∙◌, subst, inl, inr, arith}
+use Rattle.std.proofs.Common.{◌≡◌, ℕ, ◌+◌, ◌<◌, ◌≤◌, ltb, List, length, Ok, Err, Result, sym, refl, ap, ◌∙◌, inl, inr, arith}
 use Rattle.std.specs.Result.{result_map_both}
 use Rattle.std.proofs.lemmas.List.{length-drop}
 use Rattle.std.proofs.lemmas.Bool.{cond-true, cond-false, lt-ltb, le-ltb, cases_lt}
@@ -9,8 +9,8 @@ use Rattle.lines.specs.declared.LineFault.{LineFault}
 use Rattle.recordings.specs.declared.RunFault.{RunFault}
 use Rattle.recordings.specs.declared.RunFault.TheVariants.{Line, TooLong}
 use Rattle.recordings.specs.declared.Summary.{Summary}
-use Rattle.recordings.specs.Passes.{first_header, later_lines, calls_in, line_length, counted, Sound, Room, written}
-use Rattle.recordings.specs.Whole.{with_line, calls_of, summary_of, check_recording, fitted, read_recording, filled, table_after}
+use Rattle.recordings.specs.Passes.{first_header, later_lines, calls_in, line_length, counted}
+use Rattle.recordings.specs.Whole.{with_line, calls_of, summary_of, check_recording}
 
 -- A recording is told by its length, its header and its calls, in this order.
 pub calls_of_long : (bs : List ℕ) → 60000 < length bs → calls_of bs ≡ Err TooLong
@@ -36,10 +36,10 @@ calls_of_whole bs h cs short e g = after_first bs h short e ∙ ap (λ q. with_l
 -- What a count of calls says of the calls.
 pub calls_from_count : (q : Result (List CallRecord) LineFault) (n : ℕ) → Ok n ≡ counted q → (cs : List CallRecord) × (q ≡ Ok cs) × (n ≡ length cs)
 calls_from_count (Ok cs) n e = (cs, refl, cc)
-calls_from_count (Err x) n e = absurd (let z : ◌≡◌ {A = ℕ} 0 1 = cc in omega arith)
+calls_from_count (Err x) n e = grind arith
 
 pub fault_from_count : (q : Result (List CallRecord) LineFault) (x : LineFault) → Err x ≡ counted q → q ≡ Err x
-fault_from_count (Ok cs) x e = absurd (let z : ◌≡◌ {A = ℕ} 0 1 = cc in omega arith)
+fault_from_count (Ok cs) x e = grind arith
 fault_from_count (Err y) x e = let same : y ≡ x = cc in ap Err same
 
 -- What is known of a recording that a check accepts: `s` is its summary and `cs` are its calls.
@@ -58,38 +58,18 @@ by_lines bs s h (Ok cs) short f g e =
     let f' : first_header bs ≡ Ok s.header = f ∙ ap Ok a in
     let g' : calls_in s.header.pages (later_lines bs) ≡ Ok cs = ap (λ (t : Header). calls_in t.pages (later_lines bs)) (sym a) ∙ g in
     (cs, record { short = short; header = f'; lines = g'; count = ap (λ (t : Summary). t.calls) same; whole = calls_of_whole bs s.header cs short f' g' })
-by_lines bs s h (Err x) short f g e = absurd (let z : ◌≡◌ {A = ℕ} 0 1 = cc in omega arith)
+by_lines bs s h (Err x) short f g e = grind arith
 
 by_header : (bs : List ℕ) (s : Summary) (q : Result Header LineFault) → length bs ≤ 60000 → first_header bs ≡ q → Ok s ≡ check_recording bs → (cs : List CallRecord) × Checked bs s cs
 by_header bs s (Ok h) short f e = by_lines bs s h (calls_in h.pages (later_lines bs)) short f refl (e ∙ ap (result_map_both summary_of (λ (e : RunFault). e)) (after_first bs h short f))
-by_header bs s (Err x) short f e = absurd (let g = calls_of_header bs x short f in let z : ◌≡◌ {A = ℕ} 0 1 = cc in omega arith)
+by_header bs s (Err x) short f e = absurd (let g = calls_of_header bs x short f in grind arith)
 
 pub checked : (bs : List ℕ) (s : Summary) → Ok s ≡ check_recording bs → (cs : List CallRecord) × Checked bs s cs
 checked bs s e = elim (cases_lt 60000 (length bs)) [
-  | inl long ↦ absurd (let g = calls_of_long bs long in let z : ◌≡◌ {A = ℕ} 0 1 = cc in omega arith)
+  | inl long ↦ absurd (let g = calls_of_long bs long in grind arith)
   | inr short ↦ by_header bs s (first_header bs) short refl e
 ]
 
--- A second pass over the lines after the header meets these calls, and few enough bytes.
-pub lines_at : (bs rest : List ℕ) (s : Summary) (cs : List CallRecord) → Checked bs s cs → rest ≡ later_lines bs → calls_in s.header.pages rest ≡ Ok cs
-lines_at bs rest s cs k e = ap (calls_in s.header.pages) e ∙ k.lines
-
+-- The lines after the header are no more bytes.
 pub rest_short : (bs rest : List ℕ) → length bs ≤ 60000 → rest ≡ later_lines bs → length rest ≤ 60000
 rest_short bs rest short e = omega (arith, ap length e, length-drop (line_length bs + 1) bs)
-
-pub sound_at : (bs rest : List ℕ) (s : Summary) (cs : List CallRecord) → Checked bs s cs → rest ≡ later_lines bs → Sound (calls_in s.header.pages rest)
-sound_at bs rest s cs k e = subst Sound (sym (lines_at bs rest s cs k e)) tt
-
-pub room_at : (bs rest : List ℕ) (s : Summary) (cs : List CallRecord) (n : ℕ) → Checked bs s cs → rest ≡ later_lines bs → s.calls ≤ n → Room (calls_in s.header.pages rest) n
-room_at bs rest s cs n k e fits = subst (λ q. Room q n) (sym (lines_at bs rest s cs k e)) (omega (arith, k.count))
-
--- The answer of a reading with room enough, and the table that it leaves.
-pub answer_at : (bs : List ℕ) (s : Summary) (cs : List CallRecord) (n : ℕ) → Checked bs s cs → s.calls ≤ n → Ok s ≡ read_recording bs n
-answer_at bs s cs n k fits =
-    ap (λ c. Ok (record { header = s.header; calls = c })) k.count
-    ∙ sym (ap (fitted n) k.whole ∙ cond-false (ltb n (length cs)) _ _ (le-ltb n (length cs) (omega (arith, k.count))))
-
-pub table_at : (bs rest : List ℕ) (s : Summary) (cs table : List CallRecord) → Checked bs s cs → rest ≡ later_lines bs → s.calls ≤ length table → written (calls_in s.header.pages rest) table ≡ table_after bs table
-table_at bs rest s cs table k e fits =
-    ap (λ q. written q table) (lines_at bs rest s cs k e)
-    ∙ sym (ap (filled table) k.whole ∙ cond-false (ltb (length table) (length cs)) _ _ (le-ltb (length table) (length cs) (omega (arith, k.count))))

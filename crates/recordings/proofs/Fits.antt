@@ -24,6 +24,3 @@ recorded_calls bs h cs r = lines_fit h.pages 2 r.rest cs r.calls
 -- The same of a recording that a check accepts.
 pub checked_header : (bs : List ℕ) (s : Summary) (cs : List CallRecord) → Checked bs s cs → HeaderFit s.header
 checked_header bs s cs k = recorded_header bs s.header cs (recorded bs s cs k)
-
-pub checked_calls : (bs : List ℕ) (s : Summary) (cs : List CallRecord) → Checked bs s cs → AllByRecursion (CallFit s.header.pages) cs
-checked_calls bs s cs k = recorded_calls bs s.header cs (recorded bs s cs k)

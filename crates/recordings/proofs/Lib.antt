@@ -1,5 +1,5 @@
-pub mod Reading
-pub mod Writing
 pub mod Checked
 pub mod Recorded
 pub mod Fits
+pub mod InTurn
+pub mod Parsed

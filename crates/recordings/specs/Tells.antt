@@ -1,3 +1,5 @@
+use Rattle.std.specs.Prelude.{ℕ, List, ◌++◌}
+use Rattle.fields.specs.Justified.{justified}
 use Rattle.fields.specs.Problems.{number_of as field_number}
 use Rattle.lines.specs.declared.LineFault.{LineFault}
 use Rattle.lines.specs.declared.LineFault.TheVariants.{Field, Shape}
@@ -16,3 +18,7 @@ abbrev pub tells_of : RunFault → Told
 tells_of (Line e) = line_tells e
 tells_of TooLong = record { number = 35; line = 0; column = 0 }
 tells_of TableShort = record { number = 5; line = 0; column = 0 }
+
+-- A fault as it is printed: its number in 4 columns, its line in 6 and its column in 4.
+abbrev pub told_text : Told → List ℕ
+told_text t = justified 4 t.number ++ (justified 6 t.line ++ justified 4 t.column)

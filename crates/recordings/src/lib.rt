@@ -1,17 +1,25 @@
 // A whole recording: a header line, and then a line for each call.
 #![tactic(auto)]
 
-ghost use Rattle.std.specs.Prelude.{◌≡◌, ◌≤◌, length};
-ghost use Rattle.recordings.specs.Tells.{line_tells, tells_of};
-ghost use Rattle.recordings.specs.Passes.{line_length, first_header, later_lines, calls_in, counted, Room, written};
+ghost use Rattle.std.specs.Prelude.{◌≡◌, ◌≤◌, Some, length, IfOk};
+ghost use Rattle.lines.specs.Fit.{HeaderFit};
+ghost use Rattle.recordings.specs.Tells.{line_tells, tells_of, told_text};
+ghost use Rattle.recordings.specs.Passes.{end_in, first_header, later_lines, put_first};
 ghost use Rattle.recordings.specs.Recorded.{Exact};
 ghost use Rattle.recordings.specs.Whole.{check_recording, read_recording, table_after};
 ghost use Rattle.recordings.specs.declared.RunFault.TheVariants.{Line as LineInside};
 
+mod calls;
+mod passes;
+mod whole;
+
+pub use calls::Calls;
 use lines::{CallRecord, Header, LineFault, LineProblem};
+use std::fmt;
+pub use whole::Recording;
 
 // What is wrong with a recording, or with the table that it is read into.
-#[derive(Clone, Copy)]
+#[derive(Clone, Copy, PartialEq, Eq, Debug)]
 pub enum RunFault {
     // A fault of one of its lines.
     Line(LineFault),
@@ -30,42 +38,45 @@ impl From<LineFault> for RunFault {
 }
 
 // A fault as it is told: its number, its line and its column.
-#[derive(Clone, Copy)]
+#[derive(Clone, Copy, PartialEq, Eq, Debug)]
 pub struct Told {
+    // A number and no problem: a fault is told by it, whichever of the three kinds of problem it is.
     pub number: u8,
     pub line: usize,
     pub column: usize,
 }
 
 // What a line's fault tells.
-fn tell_line(fault: &LineFault) -> Told
-    ensures { result ≡ line_tells fault.now }
-{
-    match fault {
-        LineFault::Field(f) => Told {
-            number: f.problem.number(),
-            line: f.line,
-            column: f.column,
-        },
-        LineFault::Shape {
-            problem,
-            line,
-            column,
-        } => Told {
-            number: problem.number(),
-            line: *line,
-            column: *column,
-        },
+impl From<LineFault> for Told {
+    ghost from_gives = { λ f t. t ≡ line_tells f };
+
+    fn from(fault: LineFault) -> Told {
+        match fault {
+            LineFault::Field(f) => Told {
+                number: u8::from(f.problem),
+                line: f.line,
+                column: f.column,
+            },
+            LineFault::Shape {
+                problem,
+                line,
+                column,
+            } => Told {
+                number: u8::from(problem),
+                line,
+                column,
+            },
+        }
     }
 }
 
-impl RunFault {
-    // What the fault tells; one of no line is told at line 0, column 0.
-    pub fn tell(&self) -> Told
-        ensures { result ≡ tells_of self.now }
-    {
-        match self {
-            RunFault::Line(fault) => tell_line(fault),
+// What the fault tells; one of no line is told at line 0, column 0.
+impl From<RunFault> for Told {
+    ghost from_gives = { λ f t. t ≡ tells_of f };
+
+    fn from(fault: RunFault) -> Told {
+        match fault {
+            RunFault::Line(fault) => Told::from(fault),
             RunFault::TooLong => Told {
                 number: 35,
                 line: 0,
@@ -80,36 +91,48 @@ impl RunFault {
     }
 }
 
+// The number, the line and the column, each at the right of its columns.
+impl fmt::Display for Told {
+    ghost output = { λ t. Some (told_text t) };
+
+    fn fmt<W: fmt::Write>(&self, f: &mut fmt::Formatter<W>) -> fmt::Result {
+        write!(f, "{:>4}{:>6}{:>4}", self.number, self.line, self.column)
+    }
+}
+
 // What a recording says in short: its header, and how many calls it has.
-#[derive(Clone, Copy)]
+#[derive(Clone, Copy, PartialEq, Eq, Debug)]
 pub struct Summary {
     pub header: Header,
     pub calls: usize,
 }
 
 // The most bytes that a recording has.
-const LONGEST: usize = 60_000;
+pub const LONGEST: usize = 60_000;
 
-// How many bytes stand before the first byte 10.
-fn line_end(bytes: &[u8]) -> usize
-    ensures place { result ≡ line_length bytes.now }
-    ensures within { result ≤ length bytes.now }
+// One byte more than the longest recording: a program need not read on, as what is longer is unfit, whatever follows.
+pub const ENOUGH: u64 = LONGEST as u64 + 1;
+
+// Where the first byte 10 stands. The loop over the bytes with their places is a form that the product asks for.
+pub(crate) fn line_end(bytes: &[u8]) -> Option<usize>
+    ensures { result ≡ end_in bytes.now }
 {
     for (i, b) in bytes.iter().enumerate() {
         if *b == b'\n' {
-            return i;
+            return Some(i);
         }
     }
-    bytes.len()
+    None
 }
 
 // The header on line 1.
-fn read_first(bytes: &[u8]) -> Result<Header, LineFault>
-    ensures { result ≡ first_header bytes.now }
+#[tactic(auto, unfolding(crate::specs::Passes::first_header))]
+pub(crate) fn read_first(bytes: &[u8]) -> Result<Header, LineFault>
+    ensures told { result ≡ first_header bytes.now }
+    ensures fit { IfOk result HeaderFit }
 {
-    let end = line_end(bytes);
-    if end < bytes.len() {
-        return lines::header_of(&bytes[0..end]);
+    if let Some(end) = line_end(bytes) {
+        return lines::header_of(&bytes[..end]);
     }
     let problem = if bytes.is_empty() {
         LineProblem::HeaderPlace
@@ -127,72 +150,10 @@ fn read_first(bytes: &[u8]) -> Result<Header, LineFault>
 pub fn after_header<'a>(bytes: &'a [u8]) -> &'a [u8]
     ensures { result.now ≡ later_lines bytes.now }
 {
-    let end = line_end(bytes);
-    if end < bytes.len() {
-        &bytes[end + 1..]
-    } else {
-        &bytes[end..]
+    match line_end(bytes) {
+        Some(end) => &bytes[end + 1..],
+        None => &[],
     }
-}
-
-// Checks the lines after the header, and counts their calls.
-fn count_calls(pages: u32, rest: &[u8]) -> Result<usize, LineFault>
-    requires { length rest.now ≤ 60000 }
-    ensures { result ≡ counted (calls_in pages rest.now) }
-{
-    let mut line = 2;
-    let mut start = 0;
-    let mut found = 0;
-    for (i, b) in rest.iter().enumerate() {
-        if *b == b'\n' {
-            lines::call_of(line, pages, &rest[start..i])?;
-            found += 1;
-            line += 1;
-            start = i + 1;
-        }
-    }
-    if start < rest.len() {
-        return Err(LineFault::Shape {
-            problem: LineProblem::NoEnd,
-            line,
-            column: 0,
-        });
-    }
-    Ok(found)
-}
-
-// Writes the calls of sound lines to the front of a table that has room for them.
-fn write_calls(pages: u32, rest: &[u8], calls: &mut [CallRecord])
-    requires short { length rest.now ≤ 60000 }
-    requires room { Room (calls_in pages rest.now) (length calls.old) }
-    ensures { calls.new ≡ written (calls_in pages rest.now) calls.old }
-{
-    let mut line = 2;
-    let mut start = 0;
-    let mut found = 0;
-    for (i, b) in rest.iter().enumerate() {
-        if *b == b'\n' {
-            match lines::call_of(line, pages, &rest[start..i]) {
-                Ok(call) => calls[found] = call,
-                Err(_) => unreachable(),
-            }
-            found += 1;
-            line += 1;
-            start = i + 1;
-        }
-    }
-}
-
-// The summary of a recording, looked for in the order in which its faults are told.
-fn summed(bytes: &[u8]) -> Result<Summary, RunFault>
-    ensures { result ≡ check_recording bytes.now }
-{
-    if bytes.len() > LONGEST {
-        return Err(RunFault::TooLong);
-    }
-    let header = read_first(bytes)?;
-    let calls = count_calls(header.pages, after_header(bytes))?;
-    Ok(Summary { header, calls })
 }
 
 // Checks a recording to its end, and tells its header and how many calls it has.
@@ -200,19 +161,32 @@ pub fn check(bytes: &[u8]) -> Result<Summary, RunFault>
     ensures told { result ≡ check_recording bytes.now }
     ensures exact { Exact bytes.now result }
 {
-    summed(bytes)
+    Ok(Recording::parse(bytes)?.summary())
 }
 
-// Checks a recording to its end, and then puts its calls in order at the front of the table.
+// Puts calls in order at the front of a table that has room for them.
+fn write_calls(told: Calls, table: &mut [CallRecord])
+    requires { length told ≤ length table.old }
+    ensures { table.new ≡ put_first told.entry table.old }
+{
+    // By an index: of a table that `iter_mut` lent to a `zip` a proof knows the length alone.
+    for (place, call) in told.enumerate() {
+        table[place] = call;
+    }
+}
+
+// Checks a recording to its end, and then puts its calls in order at the front of the table, which is the caller's, with a count
+// of them, since the product has no heap here.
 // A refusal leaves the table as it was.
 pub fn read(bytes: &[u8], calls: &mut [CallRecord]) -> Result<Summary, RunFault>
     ensures answer { result ≡ read_recording bytes.now (length calls.old) }
     ensures table { calls.new ≡ table_after bytes.now calls.old }
 {
-    let summary = check(bytes)?;
+    let recording = Recording::parse(bytes)?;
+    let summary = recording.summary();
     if calls.len() < summary.calls {
         return Err(RunFault::TableShort);
     }
-    write_calls(summary.header.pages, after_header(bytes), calls);
+    write_calls(recording.calls(), calls);
     Ok(summary)
 }

@@ -1,6 +1,8 @@
-use Rattle.std.proofs.Common.{◌+◌, ◌≤◌}
-use Rattle.recordings.proofs.Writing.{Writing}
+use Rattle.std.proofs.Common.{◌≡◌, ◌++◌, take, drop}
 use Rattle.recordings.proofs.write_calls.Given as goal
 
-abbrev pub invariant-loop-i : goal.invariant-loop-i
-invariant-loop-i l = (l.found ≤ l.i) × (l.line ≤ l.i + 2) × Writing l.pages l.rest l.i l.line l.start l.found l.initial.calls l.calls
+-- The calls so far are the front of the table, and the rest of it is as it was.
+abbrev pub invariant-loop-place : goal.invariant-loop-place
+invariant-loop-place l =
+    (take l.place-iterator.count l.table ++ l.place-iterator.iter ≡ l.initial.place-iterator.iter)
+    × (drop l.place-iterator.count l.table ≡ drop l.place-iterator.count l.initial.table)
