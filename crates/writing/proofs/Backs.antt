@@ -9,10 +9,13 @@ use Rattle.std.proofs.lemmas.Bool.Decides.{nat_tests}
 use Rattle.fields.specs.Numbers.{read_number}
 use Rattle.fields.specs.Justified.{justified}
 use Rattle.fields.proofs.Exact.{own, read_back}
+use Rattle.model.specs.declared.UseKind.{UseKind}
+use Rattle.model.specs.declared.UseKind.TheVariants.{Read, Write}
 use Rattle.lines.specs.declared.Header.{Header}
 use Rattle.lines.specs.declared.CallRecord.{CallRecord}
 use Rattle.lines.specs.declared.LineFault.TheVariants.{Shape}
 use Rattle.lines.specs.declared.LineProblem.TheVariants.{NoSuchPage}
+use Rattle.lines.specs.Kinds.{letter_of}
 use Rattle.lines.specs.Parts.{header_parts, use_parts, settle_parts}
 use Rattle.lines.specs.Cuts.{columns, cut_line}
 use Rattle.lines.specs.Headers.{with_field, with_parts, in_range, header_from, header_of}
@@ -97,11 +100,17 @@ use_line c (inr e) = cond-false (eqb c.letter 83) _ _ (ne_eqb c.letter 83 (λ f.
 pub settle_line : (c : CallRecord) → c.letter ≡ 83 → call_line c ≡ 83 ∷ []
 settle_line c e = cond-true (eqb c.letter 83) _ _ (eq-eqb c.letter 83 e)
 
-use_cuts : (n l : ℕ) (p : List ℕ) → 2 ≤ n → (l ≡ 82) ⊎ (l ≡ 87) → length p ≡ 5 → cut_line n (l ∷ p) ≡ Ok (use_parts l (record { bytes = p; line = n; column = 2 }))
-use_cuts n l p later letter five =
+use_cuts : (n : ℕ) (kind : UseKind) (p : List ℕ) → 2 ≤ n → length p ≡ 5 → cut_line n (letter_of kind ∷ p) ≡ Ok (use_parts kind (record { bytes = p; line = n; column = 2 }))
+use_cuts n kind p later five =
+    let l : ℕ = letter_of kind in
     let whole : between 1 6 (l ∷ p) ≡ p = take_all 5 p (omega arith) in
-    let e : cut_line n (l ∷ p) ≡ Ok (use_parts l (columns n 2 1 6 (l ∷ p))) = grind (arith, nat_tests) in
-    e ∙ ap (λ z. Ok (use_parts l (record { bytes = z; line = n; column = 2 }))) whole
+    let e : cut_line n (l ∷ p) ≡ Ok (use_parts kind (columns n 2 1 6 (l ∷ p))) = elim kind [ Read ↦ grind (arith, nat_tests) | Write ↦ grind (arith, nat_tests) ] in
+    e ∙ ap (λ z. Ok (use_parts kind (record { bytes = z; line = n; column = 2 }))) whole
+
+-- Each of the two letters is that of a kind.
+kind_there : (l : ℕ) → (l ≡ 82) ⊎ (l ≡ 87) → (kind : UseKind) × (l ≡ letter_of kind)
+kind_there l (inl e) = (Read, e)
+kind_there l (inr e) = (Write, e)
 
 settle_cuts : (n : ℕ) → 2 ≤ n → cut_line n (83 ∷ []) ≡ Ok settle_parts
 settle_cuts n later = grind (arith, nat_tests)
@@ -112,8 +121,10 @@ unfolding call_of
 call_reads n pages c later few (inl f) =
     let below = f.1 in
     let narrow = call_narrow pages c few (inl f) in
-    ap (λ z. with_parts (cut_line n z) (call_from n pages)) (use_line c f.0)
-    ∙ ap (λ q. with_parts q (call_from n pages)) (use_cuts n c.letter (justified 5 c.page) later f.0 (justified_length 5 c.page narrow))
+    let k = kind_there c.letter f.0 in
+    ap (λ z. with_parts (cut_line n z) (call_from n pages)) (use_line c f.0 ∙ ap (λ l. l ∷ justified 5 c.page) k.1)
+    ∙ ap (λ q. with_parts q (call_from n pages)) (use_cuts n k.0 (justified 5 c.page) later (justified_length 5 c.page narrow))
+    ∙ ap (λ l. with_field (read_number n 2 (justified 5 c.page)) (λ p. cond (ltb p pages) (Ok (record { letter = l; page = p })) (Err (Shape NoSuchPage n 6)))) (sym k.1)
     ∙ ap (λ q. with_field q (λ p. cond (ltb p pages) (Ok (record { letter = c.letter; page = p })) (Err (Shape NoSuchPage n 6)))) (field_reads n 2 5 c.page (omega arith) narrow)
     ∙ cond-true (ltb c.page pages) _ _ (lt-ltb c.page pages below)
 call_reads n pages c later few (inr f) =

@@ -32,7 +32,7 @@ fit_call n pages c (inr f) = let l = f.0 in let p = f.1 in grind (arith, nat_tes
 -- Where two checks pass, each does.
 both_there : {G : Type 0} (q next : Result (Unit {0}) LineFault) (u : Unit {0}) → and_then q next ≡ Ok u → ((v : Unit {0}) → q ≡ Ok v → next ≡ Ok u → G) → G
 both_there (Ok v) next u e take-it = take-it v refl e
-both_there (Err x) next u e take-it = absurd (let z : ◌≡◌ {A = ℕ} 0 1 = cc in omega arith)
+both_there (Err x) next u e take-it = grind arith
 
 pub calls_fit : (n pages : ℕ) (cs : List CallRecord) (u : Unit {0}) → calls_in_range n pages cs ≡ Ok u → AllByRecursion (CallFit pages) cs
 calls_fit n pages [] u e = tt

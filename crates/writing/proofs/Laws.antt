@@ -42,7 +42,7 @@ same_again bs h cs e =
 
 only_at : (bs : List ℕ) (q : Result Recording RunFault) → calls_of bs ≡ q → is_ok q ≡ true → (h : Header) × (cs : List CallRecord) × (written_text h cs ≡ Ok bs)
 only_at bs (Ok r) e t = (r.header, r.calls, same_again bs r.header r.calls e)
-only_at bs (Err x) e t = absurd (let z : ◌≡◌ {A = ℕ} 0 1 = cc in omega arith)
+only_at bs (Err x) e t = grind arith
 
 pub only_written : OnlyWritten
 only_written bs t = only_at bs (calls_of bs) refl t
@@ -53,14 +53,14 @@ text_in old t fits = let f = le-ltb (length old) (length t) fits in (cond-false 
 
 back_at : (h : Header) (cs : List CallRecord) (old new : List ℕ) (q : Result (List ℕ) RunFault) (n : ℕ) → h.seed < 2 ^ 32 → written_text h cs ≡ q → Ok n ≡ text_fitted (length old) q → new ≡ text_filled old q → Says (take n new) h cs
 back_at h cs old new (Ok t) n small e is holds = elim (cases_lt (length old) (length t)) [
-  | inl less ↦ absurd (let f = cond-true (ltb (length old) (length t)) (Err TableShort) (Ok (length t)) (lt-ltb (length old) (length t) less) in let z : ◌≡◌ {A = ℕ} 0 1 = cc in omega arith)
+  | inl less ↦ absurd (let f = cond-true (ltb (length old) (length t)) (Err TableShort) (Ok (length t)) (lt-ltb (length old) (length t) less) in grind arith)
   | inr fits ↦
       let p = text_in old t fits in
       let size : n ≡ length t = let same = is ∙ p.0 in cc in
       let front : take n new ≡ t = ap (take n) (holds ∙ p.1) ∙ take_at t (drop (length t) old) n (sym size) in
       ap calls_of front ∙ written_says h cs t small e
 ]
-back_at h cs old new (Err x) n small e is holds = absurd (let z : ◌≡◌ {A = ℕ} 0 1 = cc in omega arith)
+back_at h cs old new (Err x) n small e is holds = grind arith
 
 -- So the bytes in the buffer say what was written.
 pub reads_back : (h : Header) (cs : List CallRecord) (old new : List ℕ) (r : Result ℕ RunFault) → h.seed < 2 ^ 32 → r ≡ write_recording h cs (length old) → new ≡ buffer_after h cs old → ReadsBack r new h cs

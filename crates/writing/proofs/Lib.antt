@@ -1,7 +1,5 @@
-pub mod Digits
 pub mod Widths
 pub mod Puts
-pub mod Checks
 pub mod Texts
 pub mod Measures
 pub mod Fits

@@ -1,5 +1,5 @@
 -- What is read and written again.
-use Rattle.std.proofs.Common.{◌≡◌, ℕ, ◌<◌, ◌≤◌, ltb, List, length, take, drop, Ok, Err, Result, sym, refl, ap, ◌∙◌, inl, inr, arith}
+use Rattle.std.proofs.Common.{◌≡◌, ℕ, ◌≤◌, ltb, List, length, take, drop, Ok, Err, Result, sym, refl, ap, ◌∙◌, inl, inr, arith}
 use Rattle.std.proofs.lemmas.List.{take_at}
 use Rattle.std.proofs.lemmas.Bool.{cases_lt, cond-true, cond-false, lt-ltb, le-ltb}
 use Rattle.lines.specs.declared.CallRecord.{CallRecord}
@@ -14,15 +14,6 @@ use Rattle.writing.specs.Rewritten.{rewritten, rewrite_recording, if_accepted}
 use Rattle.writing.specs.Laws.{Says, SameBytes}
 use Rattle.writing.proofs.Laws.{same_again, text_in}
 
--- A buffer shorter than the bytes is refused, whatever room the table has.
-pub buffer_refused : (bs : List ℕ) (r : Recording) (room space : ℕ) → calls_of bs ≡ Ok r → space < length bs → Err TableShort ≡ rewrite_recording bs room space
-buffer_refused bs r room space e less =
-    let w : write_recording r.header r.calls space ≡ Err TableShort = ap (text_fitted space) (same_again bs r.header r.calls e) ∙ cond-true (ltb space (length bs)) _ _ (lt-ltb space (length bs) less) in
-    elim (cases_lt room (length r.calls)) [
-      | inl short ↦ sym (ap (rewritten room space) e ∙ cond-true (ltb room (length r.calls)) _ _ (lt-ltb room (length r.calls) short))
-      | inr fits ↦ sym (ap (rewritten room space) e ∙ cond-false (ltb room (length r.calls)) _ _ (le-ltb room (length r.calls) fits) ∙ w)
-    ]
-
 -- What is known where a reading is accepted: `cs` are the calls that stand first in the table.
 pub record ReadInto (bs : List ℕ) (table : List CallRecord) (s : Summary) (cs : List CallRecord) : Type 0 where
   pub says : Says bs s.header cs
@@ -32,7 +23,7 @@ pub record ReadInto (bs : List ℕ) (table : List CallRecord) (s : Summary) (cs 
 
 read_at : (bs : List ℕ) (table : List CallRecord) (s : Summary) (q : Result Recording RunFault) → calls_of bs ≡ q → Ok s ≡ fitted (length table) q → (cs : List CallRecord) × ReadInto bs table s cs
 read_at bs table s (Ok r) e is = elim (cases_lt (length table) (length r.calls)) [
-  | inl less ↦ absurd (let f = cond-true (ltb (length table) (length r.calls)) (Err TableShort) (Ok (summary_of r)) (lt-ltb (length table) (length r.calls) less) in let z : ◌≡◌ {A = ℕ} 0 1 = cc in omega arith)
+  | inl less ↦ absurd (let f = cond-true (ltb (length table) (length r.calls)) (Err TableShort) (Ok (summary_of r)) (lt-ltb (length table) (length r.calls) less) in grind arith)
   | inr fits ↦
       let no = le-ltb (length table) (length r.calls) fits in
       let f = cond-false (ltb (length table) (length r.calls)) (Err TableShort) (Ok (summary_of r)) no in
@@ -46,7 +37,7 @@ read_at bs table s (Ok r) e is = elim (cases_lt (length table) (length r.calls))
         },
       )
 ]
-read_at bs table s (Err x) e is = absurd (let z : ◌≡◌ {A = ℕ} 0 1 = cc in omega arith)
+read_at bs table s (Err x) e is = grind arith
 
 pub read_into : (bs : List ℕ) (table : List CallRecord) (s : Summary) → Ok s ≡ read_recording bs (length table) → (cs : List CallRecord) × ReadInto bs table s cs
 read_into bs table s is = read_at bs table s (calls_of bs) refl is
@@ -69,7 +60,7 @@ rewritten_again bs space table s cs k fits =
 
 by_space : (bs : List ℕ) (space n : ℕ) → Ok n ≡ text_fitted space (Ok bs) → n ≡ length bs
 by_space bs space n is = elim (cases_lt space (length bs)) [
-  | inl less ↦ absurd (let f = cond-true (ltb space (length bs)) (Err TableShort) (Ok (length bs)) (lt-ltb space (length bs) less) in let z : ◌≡◌ {A = ℕ} 0 1 = cc in omega arith)
+  | inl less ↦ absurd (let f = cond-true (ltb space (length bs)) (Err TableShort) (Ok (length bs)) (lt-ltb space (length bs) less) in grind arith)
   | inr fits ↦ let f = cond-false (ltb space (length bs)) (Err TableShort) (Ok (length bs)) (le-ltb space (length bs) fits) in cc
 ]
 
@@ -78,11 +69,11 @@ by_read : (bs : List ℕ) (room space n : ℕ) (q : Result Recording RunFault) �
 by_read bs room space n (Ok r) e is =
     let t = ap (text_fitted space) (same_again bs r.header r.calls e) in
     elim (cases_lt room (length r.calls)) [
-      | inl less ↦ absurd (let f = cond-true (ltb room (length r.calls)) (Err TableShort) (write_recording r.header r.calls space) (lt-ltb room (length r.calls) less) in let z : ◌≡◌ {A = ℕ} 0 1 = cc in omega arith)
+      | inl less ↦ absurd (let f = cond-true (ltb room (length r.calls)) (Err TableShort) (write_recording r.header r.calls space) (lt-ltb room (length r.calls) less) in grind arith)
       | inr fits ↦ let f = cond-false (ltb room (length r.calls)) (Err TableShort) (write_recording r.header r.calls space) (le-ltb room (length r.calls) fits) in
           by_space bs space n (is ∙ f ∙ t)
     ]
-by_read bs room space n (Err x) e is = absurd (let z : ◌≡◌ {A = ℕ} 0 1 = cc in omega arith)
+by_read bs room space n (Err x) e is = grind arith
 
 pub same_bytes : (bs old new : List ℕ) (room space : ℕ) (r : Result ℕ RunFault) → r ≡ rewrite_recording bs room space → new ≡ if_accepted r (text_first bs old) old → SameBytes r new bs
 same_bytes bs old new room space (Ok n) is holds = ap (take n) holds ∙ take_at bs (drop (length bs) old) n (sym (by_read bs room space n (calls_of bs) refl is))

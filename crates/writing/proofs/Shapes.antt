@@ -1,18 +1,20 @@
 -- Lines that are read are the lines that are written.
-use Rattle.std.proofs.Common.{◌≡◌, ℕ, ◌+◌, ◌⊎◌, List, [], ◌∷◌, ◌++◌, length, get_or, drop, Ok, sym, refl, ap, ◌∙◌, append_assoc, arith}
+use Rattle.std.proofs.Common.{◌≡◌, ℕ, ◌+◌, List, [], ◌∷◌, ◌++◌, length, get_or, drop, Ok, sym, refl, ap, ◌∙◌, append_assoc, arith}
 use Rattle.std.specs.List.{between}
 use Rattle.std.proofs.lemmas.List.Edits.{length-between}
 use Rattle.std.proofs.lemmas.List.{length-drop, take_all, take-append-drop, drop_all, drop-drop, drop_more}
 use Rattle.std.proofs.lemmas.Bool.Decides.{nat_tests}
 use Rattle.fields.specs.Justified.{justified}
 use Rattle.fields.proofs.Exact.{write_back}
+use Rattle.model.specs.declared.UseKind.{UseKind}
 use Rattle.lines.specs.declared.Header.{Header}
 use Rattle.lines.specs.declared.CallRecord.{CallRecord}
+use Rattle.lines.specs.Kinds.{letter_of}
 use Rattle.lines.specs.Parts.{Columns, Parts, header_parts, use_parts, settle_parts}
 use Rattle.lines.specs.Cuts.{columns, cut_line}
 use Rattle.lines.specs.Headers.{number_in, in_range, header_from, header_of}
 use Rattle.lines.specs.Calls.{call_from, call_of}
-use Rattle.lines.proofs.Fits.{number_there, parts_there}
+use Rattle.lines.proofs.Fits.{number_there, parts_there, use_letter}
 use Rattle.recordings.specs.Recorded.{Lines, Recorded}
 use Rattle.writing.specs.Text.{header_line, call_line, calls_text, text_of}
 use Rattle.writing.proofs.Backs.{use_line, settle_line}
@@ -64,8 +66,8 @@ by_parts : (bs : List ℕ) (q : Parts) (h : Header) → cut_line 1 bs ≡ Ok q �
 by_parts bs (header_parts a b r s) h cuts e =
     number_there (number_in a) _ h e (λ p ea e₁. number_there (number_in b) _ h e₁ (λ t eb e₂. number_there (number_in s) _ h e₂ (λ k es e₃.
     by_numbers bs a b s r p t k h (header_cut bs a b r s cuts) ea eb es e₃)))
-by_parts bs (use_parts letter page) h cuts e = absurd (let z : ◌≡◌ {A = ℕ} 0 1 = cc in omega arith)
-by_parts bs settle_parts h cuts e = absurd (let z : ◌≡◌ {A = ℕ} 0 1 = cc in omega arith)
+by_parts bs (use_parts kind page) h cuts e = grind arith
+by_parts bs settle_parts h cuts e = grind arith
 
 -- Line 1 is the header that it tells, written.
 pub header_is : (bs : List ℕ) (h : Header) → header_of bs ≡ Ok h → bs ≡ header_line h
@@ -73,30 +75,29 @@ unfolding header_of
 header_is bs h e = parts_there (cut_line 1 bs) header_from h e (λ q cuts g. by_parts bs q h cuts g)
 
 -- What a line is that is cut as a use, or as a settle.
-pub record UseCut (n : ℕ) (bs : List ℕ) (letter : ℕ) (page : Columns) : Type 0 where
-  pub letters : (letter ≡ 82) ⊎ (letter ≡ 87)
+pub record UseCut (n : ℕ) (bs : List ℕ) (kind : UseKind) (page : Columns) : Type 0 where
   pub size : length bs ≡ 6
-  pub first : letter ≡ get_or bs 0 0
+  pub first : letter_of kind ≡ get_or bs 0 0
   pub field : page ≡ columns n 2 1 6 bs
 
-use_cut : (n : ℕ) (bs : List ℕ) (letter : ℕ) (page : Columns) → cut_line n bs ≡ Ok (use_parts letter page) → UseCut n bs letter page
-use_cut n bs letter page e = record { letters = grind (arith, nat_tests); size = grind (arith, nat_tests); first = grind (arith, nat_tests); field = grind (arith, nat_tests) }
+use_cut : (n : ℕ) (bs : List ℕ) (kind : UseKind) (page : Columns) → cut_line n bs ≡ Ok (use_parts kind page) → UseCut n bs kind page
+use_cut n bs kind page e = record { size = grind (arith, nat_tests); first = grind (arith, nat_tests); field = grind (arith, nat_tests) }
 
 settle_cut : (n : ℕ) (bs : List ℕ) → cut_line n bs ≡ Ok settle_parts → (get_or bs 0 0 ≡ 83) × (length bs ≡ 1)
 settle_cut n bs e = (grind (arith, nat_tests), grind (arith, nat_tests))
 
-by_page : (n pages : ℕ) (bs : List ℕ) (letter v : ℕ) (page : Columns) (c : CallRecord) → UseCut n bs letter page → number_in page ≡ Ok v → c ≡ record { letter = letter; page = v } → bs ≡ call_line c
-by_page n pages bs letter v page c u e same =
+by_page : (n pages : ℕ) (bs : List ℕ) (kind : UseKind) (v : ℕ) (page : Columns) (c : CallRecord) → UseCut n bs kind page → number_in page ≡ Ok v → c ≡ record { letter = letter_of kind; page = v } → bs ≡ call_line c
+by_page n pages bs kind v page c u e same =
     let size = u.size in
     let rest : drop 1 bs ≡ between 1 6 bs = sym (take_all 5 (drop 1 bs) (omega (arith, length-drop 1 bs))) in
     let is : between 1 6 bs ≡ justified 5 v = ap (λ (f : Columns). f.bytes) (sym u.field) ∙ field_is page 5 v (ap (λ (f : Columns). length f.bytes) u.field ∙ length-between bs 1 6 (omega arith)) e in
-    drop_more bs 0 0 (omega arith) ∙ ap (λ x. x ∷ drop 1 bs) (sym u.first) ∙ ap (λ z. letter ∷ z) (rest ∙ is)
-    ∙ sym (use_line (record { letter = letter; page = v }) u.letters) ∙ ap call_line (sym same)
+    drop_more bs 0 0 (omega arith) ∙ ap (λ x. x ∷ drop 1 bs) (sym u.first) ∙ ap (λ z. letter_of kind ∷ z) (rest ∙ is)
+    ∙ sym (use_line (record { letter = letter_of kind; page = v }) (use_letter kind)) ∙ ap call_line (sym same)
 
 by_call_parts : (n pages : ℕ) (bs : List ℕ) (q : Parts) (c : CallRecord) → cut_line n bs ≡ Ok q → call_from n pages q ≡ Ok c → bs ≡ call_line c
-by_call_parts n pages bs (header_parts a b r s) c cuts e = absurd (let z : ◌≡◌ {A = ℕ} 0 1 = cc in omega arith)
-by_call_parts n pages bs (use_parts letter page) c cuts e =
-    number_there (number_in page) _ c e (λ v is g. by_page n pages bs letter v page c (use_cut n bs letter page cuts) is (grind (arith, nat_tests)))
+by_call_parts n pages bs (header_parts a b r s) c cuts e = grind arith
+by_call_parts n pages bs (use_parts kind page) c cuts e =
+    number_there (number_in page) _ c e (λ v is g. by_page n pages bs kind v page c (use_cut n bs kind page cuts) is (grind (arith, nat_tests)))
 by_call_parts n pages bs settle_parts c cuts e =
     let u = settle_cut n bs cuts in
     let same : c ≡ record { letter = 83; page = 0 } = cc in

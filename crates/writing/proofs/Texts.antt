@@ -1,7 +1,7 @@
 -- The lines of the calls, one call at a time.
 use Rattle.std.proofs.Common.{◌≡◌, ℕ, ◌+◌, ◌-◌, ◌<◌, ◌≤◌, List, [], ◌∷◌, ◌++◌, length, get_or, take, drop, sym, refl, ap, ◌∙◌, append_assoc, arith}
 use borrow.Rule.Slice.PartMut.{put_mid}
-use Rattle.std.proofs.lemmas.List.{append-nil, length-append, length-drop, take_more, take_rest, take-append-drop, take_all, flat_map_more, drop_all, drop-drop, drop_at, take_at}
+use Rattle.std.proofs.lemmas.List.{append-nil, length-append, length-drop, take_more, take_rest, take-append-drop, flat_map_more, drop_all, drop-drop, drop_at, take_at}
 use Rattle.lines.specs.declared.CallRecord.{CallRecord}
 use Rattle.writing.specs.Text.{call_text, calls_text, text_first}
 
@@ -23,9 +23,6 @@ text_le cs i =
 
 pub length_more : (cs : List CallRecord) (i : ℕ) (d : CallRecord) → i < length cs → length (calls_text (take (i + 1) cs)) ≡ length (calls_text (take i cs)) + length (call_text (get_or cs i d))
 length_more cs i d h = ap length (text_more cs i d h) ∙ length-append (calls_text (take i cs)) (call_text (get_or cs i d))
-
-pub text_all : (cs : List CallRecord) (i : ℕ) → length cs ≤ i → calls_text (take i cs) ≡ calls_text cs
-text_all cs i all = ap calls_text (take_all i cs all)
 
 -- What is left of some bytes from a place on has room for n bytes where the whole has.
 pub room_left : (bytes : List ℕ) (at n : ℕ) → at + n ≤ length bytes → n ≤ length (take (length bytes - at) (drop at bytes))

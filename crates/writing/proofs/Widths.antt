@@ -1,8 +1,8 @@
 -- How long the lines are.
-use Rattle.std.proofs.Common.{◌≡◌, ℕ, ◌+◌, ◌-◌, ◌^◌, ◌<◌, ◌≤◌, eqb, List, [], ◌∷◌, ◌++◌, length, replicate, decimal, ap, ◌∙◌, inl, inr, arith}
+use Rattle.std.proofs.Common.{◌≡◌, ℕ, ◌+◌, ◌-◌, ◌^◌, ◌<◌, ◌≤◌, eqb, List, [], ◌∷◌, ◌++◌, length, replicate, decimal, ap, ◌∙◌, arith}
 use Rattle.std.proofs.lemmas.Fmt.{length-decimal-le}
 use Rattle.std.proofs.lemmas.List.{length-append, length-replicate}
-use Rattle.std.proofs.lemmas.Bool.{cases_eq, cond-true, cond-false, eq-eqb, ne_eqb}
+use Rattle.std.proofs.lemmas.Bool.{cond-true, cond-false, eq-eqb, ne_eqb}
 use Rattle.fields.specs.Justified.{justified}
 use Rattle.lines.specs.declared.Header.{Header}
 use Rattle.lines.specs.declared.CallRecord.{CallRecord}
@@ -58,13 +58,3 @@ use_length c n other =
     let p = justified_length 5 c.page n in
     let a = length-append (justified 5 c.page) (10 ∷ []) in
     ap length (use_text c other) ∙ omega arith
-
-pub settle_length : (c : CallRecord) → c.letter ≡ 83 → length (call_text c) ≡ 2
-settle_length c e = ap length (settle_text c e)
-
--- So no line has more than 7.
-pub call_length_le : (c : CallRecord) → Narrow c → length (call_text c) ≤ 7
-call_length_le c n = elim (cases_eq c.letter 83) [
-  | inl e ↦ omega (arith, settle_length c e)
-  | inr ne ↦ omega (arith, use_length c n ne)
-]

@@ -65,17 +65,17 @@ written h cs w = in_short h h cs tt (fit_header h w.header) (fit_calls 2 h.pages
 
 by_length : (h : Header) (cs : List CallRecord) (t : List ℕ) → HeaderFit h → AllByRecursion (CallFit h.pages) cs → short_text (text_of h cs) ≡ Ok t → Written h cs × (t ≡ text_of h cs)
 by_length h cs t a b e = elim (cases_lt 60000 (length (text_of h cs))) [
-  | inl long ↦ absurd (let f = long_is (text_of h cs) long in let z : ◌≡◌ {A = ℕ} 0 1 = cc in omega arith)
+  | inl long ↦ absurd (let f = long_is (text_of h cs) long in grind arith)
   | inr short ↦ let f = short_is (text_of h cs) short in (record { header = a; calls = b; short = short }, cc)
 ]
 
 by_calls : (h g : Header) (cs : List CallRecord) (t : List ℕ) (q : Result (Unit {0}) LineFault) → in_range h ≡ Ok g → calls_in_range 2 h.pages cs ≡ q → written_text h cs ≡ Ok t → Written h cs × (t ≡ text_of h cs)
 by_calls h g cs t (Ok u) e f is = by_length h cs t (header_fit h g e) (calls_fit 2 h.pages cs u f) (sym (in_short h g cs u e f) ∙ is)
-by_calls h g cs t (Err x) e f is = absurd (let k = call_refused h g cs x e f in let z : ◌≡◌ {A = ℕ} 0 1 = cc in omega arith)
+by_calls h g cs t (Err x) e f is = absurd (let k = call_refused h g cs x e f in grind arith)
 
 by_header : (h : Header) (cs : List CallRecord) (t : List ℕ) (q : Result Header LineFault) → in_range h ≡ q → written_text h cs ≡ Ok t → Written h cs × (t ≡ text_of h cs)
 by_header h cs t (Ok g) e is = by_calls h g cs t (calls_in_range 2 h.pages cs) e refl is
-by_header h cs t (Err x) e is = absurd (let k = header_refused h cs x e in let z : ◌≡◌ {A = ℕ} 0 1 = cc in omega arith)
+by_header h cs t (Err x) e is = absurd (let k = header_refused h cs x e in grind arith)
 
 -- And no others are.
 pub written_is : (h : Header) (cs : List CallRecord) (t : List ℕ) → written_text h cs ≡ Ok t → Written h cs × (t ≡ text_of h cs)
@@ -84,10 +84,10 @@ written_is h cs t is = by_header h cs t (in_range h) refl is
 -- What a measured length says.
 pub from_length : (q : Result (List ℕ) RunFault) (n : ℕ) → Ok n ≡ result_map_both length (λ (e : RunFault). e) q → (t : List ℕ) × (q ≡ Ok t) × (n ≡ length t)
 from_length (Ok t) n e = (t, refl, cc)
-from_length (Err x) n e = absurd (let z : ◌≡◌ {A = ℕ} 0 1 = cc in omega arith)
+from_length (Err x) n e = grind arith
 
 pub from_fault : (q : Result (List ℕ) RunFault) (x : RunFault) → Err x ≡ result_map_both length (λ (e : RunFault). e) q → q ≡ Err x
-from_fault (Ok t) x e = absurd (let z : ◌≡◌ {A = ℕ} 0 1 = cc in omega arith)
+from_fault (Ok t) x e = grind arith
 from_fault (Err y) x e = let same : y ≡ x = cc in ap Err same
 
 pub record Measured (h : Header) (cs : List CallRecord) (n : ℕ) : Type 0 where

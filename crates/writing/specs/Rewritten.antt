@@ -1,4 +1,4 @@
-use Rattle.std.specs.Prelude.{ℕ, cond, List, length, Ok, Err, Result, nat_lt}
+use Rattle.std.specs.Prelude.{◌≡◌, ℕ, true, cond, List, length, is_ok, Ok, Err, Result, nat_lt}
 use Rattle.recordings.specs.declared.RunFault.{RunFault}
 use Rattle.recordings.specs.declared.RunFault.TheVariants.{TableShort}
 use Rattle.recordings.specs.Whole.{Recording, calls_of}
@@ -17,3 +17,8 @@ rewrite_recording bs room space = rewritten room space (calls_of bs)
 abbrev pub if_accepted : {T : Type 0} → Result ℕ RunFault → T → T → T
 if_accepted (Ok n) new old = new
 if_accepted (Err e) new old = old
+
+-- What a rewriting in memory of its own gives: the bytes, if they are a recording, and else their fault.
+abbrev pub WrittenAgain : Result (List ℕ) RunFault → List ℕ → Type 0
+WrittenAgain (Ok text) bs = (is_ok (calls_of bs) ≡ true) × (text ≡ bs)
+WrittenAgain (Err e) bs = calls_of bs ≡ Err e

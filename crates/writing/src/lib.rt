@@ -1,7 +1,7 @@
 // A recording written from its header and its calls.
 #![tactic(auto)]
 
-ghost use Rattle.std.specs.Prelude.{◌≡◌, ◌+◌, ◌≤◌, length, decimal};
+ghost use Rattle.std.specs.Prelude.{◌≡◌, ◌+◌, ◌≤◌, length, decimal, IfOk};
 ghost use Rattle.std.specs.Result.{result_map_both};
 ghost use Rattle.std.specs.List.{AllByRecursion};
 ghost use Rattle.fields.specs.Justified.{justified};
@@ -10,14 +10,12 @@ ghost use Rattle.recordings.specs.Whole.{table_after};
 ghost use Rattle.writing.specs.Text.{header_text, call_text, calls_text, Narrow, text_first};
 ghost use Rattle.writing.specs.Refusals.{call_in_range, calls_in_range};
 ghost use Rattle.writing.specs.Laws.{ReadsBack, SameBytes, SameAgain, OnlyWritten};
-ghost use Rattle.writing.specs.Rewritten.{rewrite_recording, if_accepted};
+ghost use Rattle.writing.specs.Rewritten.{rewrite_recording, if_accepted, WrittenAgain};
 ghost use Rattle.writing.specs.Whole.{short_length, written_text, write_recording, buffer_after};
 
 use lines::{CallRecord, Header, LineFault, LineProblem};
-use recordings::RunFault;
-
-// The most bytes that a recording has.
-const LONGEST: usize = 60_000;
+use recordings::{LONGEST, RunFault};
+use std::alloc::{AllocError, Global};
 
 // The bytes of line 1, the byte that ends it included.
 const HEADER_LENGTH: usize = 21;
@@ -27,19 +25,12 @@ fn put_number(value: u32, columns: &mut [u8])
     requires { length (decimal value) ≤ length columns.old }
     ensures { columns.new ≡ justified (length columns.old) value }
 {
-    let mut rest = value;
-    let mut at = columns.len();
-    while rest >= 10 {
-        at -= 1;
-        columns[at] = b'0' + (rest % 10) as u8;
-        rest /= 10;
-    }
-    at -= 1;
-    columns[at] = b'0' + rest as u8;
-    columns[0..at].fill(b' ');
+    let start = itoa::write_digits(value as u64, columns, columns.len());
+    columns[..start].fill(b' ');
 }
 
-// Puts line 1 at the front of the bytes.
+// Puts line 1 at the front of the bytes. At its fixed columns, in the caller's buffer: the product wants no heap here, and a
+// format would want a writer of its own.
 fn put_header(header: Header, bytes: &mut [u8])
     requires fit { HeaderFit header }
     requires room { 21 ≤ length bytes.old }
@@ -53,7 +44,8 @@ fn put_header(header: Header, bytes: &mut [u8])
     bytes[20] = b'\n';
 }
 
-// Puts the line of a call at the front of the bytes, and gives its length.
+// Puts the line of a call at the front of the bytes, and gives its length. That the page has at most 5 digits is
+// asked of each call: the calls are the caller's own, and a type that held the fact would need a copy of them.
 fn put_call(call: CallRecord, bytes: &mut [u8]) -> usize
     requires narrow { Narrow call }
     requires room { length (call_text call) ≤ length bytes.old }
@@ -105,7 +97,7 @@ fn check_calls(pages: u32, calls: &[CallRecord]) -> Result<(), LineFault>
     Ok(())
 }
 
-// How long the line of a call is.
+// How long the line of a call is, asked before anything is written.
 fn call_length(call: CallRecord) -> usize
     requires { Narrow call }
     ensures { result ≡ length (call_text call) }
@@ -128,7 +120,8 @@ fn text_length(calls: &[CallRecord]) -> Result<usize, RunFault>
     Ok(length)
 }
 
-// Puts the lines of the calls at the front of the bytes, one after another.
+// Puts the lines of the calls at the front of the bytes, one after another. The place of the next line is
+// kept by hand, since the lines differ in length: to lend each call the bytes that are left is no plainer.
 fn put_calls(calls: &[CallRecord], bytes: &mut [u8])
     requires narrow { AllByRecursion Narrow calls.now }
     requires room { length (calls_text calls.now) ≤ length bytes.old }
@@ -149,10 +142,13 @@ fn measure(header: Header, calls: &[CallRecord]) -> Result<usize, RunFault>
     text_length(calls)
 }
 
-// Checks everything, and then puts the recording at the front of the buffer.
-fn put_recording(header: Header, calls: &[CallRecord], buffer: &mut [u8]) -> Result<usize, RunFault>
+// Writes a recording into the buffer, which is the caller's, and gives its length, since the product has no heap here; the rest
+// of a longer buffer is left.
+// A refusal writes nothing.
+pub fn write(header: Header, calls: &[CallRecord], buffer: &mut [u8]) -> Result<usize, RunFault>
     ensures answer { result ≡ write_recording header calls.now (length buffer.old) }
     ensures buffer { buffer.new ≡ buffer_after header calls.now buffer.old }
+    ensures back { ReadsBack result buffer.new header calls.now }
 {
     let length = measure(header, calls)?;
     if buffer.len() < length {
@@ -163,37 +159,10 @@ fn put_recording(header: Header, calls: &[CallRecord], buffer: &mut [u8]) -> Res
     Ok(length)
 }
 
-// Writes a recording into the buffer, and gives its length; the rest of a longer buffer is left.
-// A refusal writes nothing.
-pub fn write(header: Header, calls: &[CallRecord], buffer: &mut [u8]) -> Result<usize, RunFault>
-    ensures answer { result ≡ write_recording header calls.now (length buffer.old) }
-    ensures buffer { buffer.new ≡ buffer_after header calls.now buffer.old }
-    ensures back { ReadsBack result buffer.new header calls.now }
-{
-    put_recording(header, calls, buffer)
-}
-
-// Reads a recording into the table, and writes what it says into the buffer. The text is as long as
-// the bytes, so that a buffer that is too short is known before anything is written.
-fn read_and_write(
-    bytes: &[u8],
-    calls: &mut [CallRecord],
-    buffer: &mut [u8],
-) -> Result<usize, RunFault>
-    ensures answer { result ≡ rewrite_recording bytes.now (length calls.old) (length buffer.old) }
-    ensures table { calls.new ≡ if_accepted result (table_after bytes.now calls.old) calls.old }
-    ensures buffer { buffer.new ≡ if_accepted result (text_first bytes.now buffer.old) buffer.old }
-{
-    if buffer.len() < bytes.len() {
-        recordings::check(bytes)?;
-        return Err(RunFault::TableShort);
-    }
-    let summary = recordings::read(bytes, calls)?;
-    put_recording(summary.header, &calls[..summary.calls], buffer)
-}
-
-// Reads a recording into the table, and writes what it says into the buffer: the same bytes.
+// Reads a recording into the table, and writes what it says into the buffer: the same bytes, so that
+// a buffer that is too short is known before anything is written.
 // A refusal leaves the table and the buffer as they were.
+#[tactic(auto, using(crate::proofs::Laws::same_again, crate::proofs::Laws::only_written))]
 pub fn rewrite(bytes: &[u8], calls: &mut [CallRecord], buffer: &mut [u8]) -> Result<usize, RunFault>
     ensures answer { result ≡ rewrite_recording bytes.now (length calls.old) (length buffer.old) }
     ensures table { calls.new ≡ if_accepted result (table_after bytes.now calls.old) calls.old }
@@ -202,5 +171,31 @@ pub fn rewrite(bytes: &[u8], calls: &mut [CallRecord], buffer: &mut [u8]) -> Res
     ensures again { SameAgain }
     ensures only { OnlyWritten }
 {
-    read_and_write(bytes, calls, buffer)
+    if buffer.len() < bytes.len() {
+        recordings::check(bytes)?;
+        return Err(RunFault::TableShort);
+    }
+    let summary = recordings::read(bytes, calls)?;
+    write(summary.header, &calls[..summary.calls], buffer)
+}
+
+// A recording read and written again in memory of its own: the same bytes. Two results, since a fault is the recording's, and
+// told, and want of memory ends what asked for it.
+pub fn written_again(heap: Global, bytes: &[u8]) -> Result<Result<Vec<u8>, RunFault>, AllocError>
+    ensures { IfOk result (λ answer. WrittenAgain (result_map_both (λ text. text.items) (λ e. e) answer) bytes.now) }
+{
+    let summary = match recordings::check(bytes) {
+        Ok(summary) => summary,
+        Err(fault) => return Ok(Err(fault)),
+    };
+    let unread = CallRecord {
+        letter: b'S',
+        page: 0,
+    };
+    let mut calls = vec![in heap; unread; summary.calls]?;
+    let mut text = vec![in heap; 0; bytes.len()]?;
+    match rewrite(bytes, &mut calls, &mut text) {
+        Ok(_length) => Ok(Ok(text)),
+        Err(fault) => Ok(Err(fault)),
+    }
 }

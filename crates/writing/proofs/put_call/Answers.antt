@@ -5,12 +5,6 @@ use Rattle.writing.proofs.Widths.{use_length}
 use Rattle.writing.proofs.Puts.{use_put}
 use Rattle.writing.proofs.put_call.Goals as goal
 
-pub slice_bounds-put_number-end : goal.slice_bounds-put_number-end
-slice_bounds-put_number-end c = let l = use_length c.args.call c.requires.narrow c.if-call-eq83.false in search rules
-
-pub bounds-bytes-6 : goal.bounds-bytes-6
-bounds-bytes-6 c = let l = use_length c.args.call c.requires.narrow c.if-call-eq83.false in search (rules, places)
-
 pub returns : goal.returns
 returns c =
     let l = use_length c.args.call c.requires.narrow c.if-call-eq83.false in
