@@ -1,6 +1,7 @@
 -- A column of the count table after one more was counted.
-use Rattle.std.proofs.Common.{◌≡◌, ℕ, ◌+◌, ◌%◌, ◌<◌, ◌≤◌, eqb, ◌≢◌, List, ◌∷◌, length, get_or, Some, None, Option, sym, refl, ◌∙◌, inl, inr, arith}
-use Rattle.std.proofs.lemmas.List.{get_or-set_same, get_or-set_other, length-set, set_past}
+use Rattle.std.proofs.Common.{◌≡◌, ℕ, ◌+◌, ◌%◌, ◌<◌, ◌≤◌, Bool, true, false, not, eqb, ◌≢◌, List, ◌∷◌, length, get_or, Some, None, Option, is_some, refl, ◌∙◌, inl, inr, arith}
+use mir.Val.{bool_byte}
+use Rattle.std.proofs.lemmas.List.{get_or-set_same, get_or-set_other, length-set}
 use Rattle.lists.specs.Weights.{occ, one}
 use Rattle.lists.proofs.Weights.{eqb_cases}
 use Rattle.model.specs.Windows.{noted, absent}
@@ -40,9 +41,9 @@ pub length-noted : (base : ℕ) (found : Option ℕ) (counts : List ℕ) → len
 length-noted base None counts = refl
 length-noted base (Some d) counts = length-set counts (base + d) _
 
--- A depth past the end of the table is not counted.
-pub noted_past : (base : ℕ) (found : Option ℕ) (d : ℕ) (counts : List ℕ) → found ≡ Some d → length counts ≤ base + d → counts ≡ noted_in base found counts
-noted_past base found d counts e h = rw e (sym (set_past counts (base + d) _ h))
-
-pub absent_some : (found : Option ℕ) (d : ℕ) → found ≡ Some d → 0 ≡ absent found
-absent_some found d e = rw e refl
+-- Whether there is no depth, as a number.
+pub absent_told : (found : Option ℕ) (none : Bool) → is_some found ≡ not none → bool_byte none ≡ absent found
+absent_told None true e = refl
+absent_told None false e = cc
+absent_told (Some d) true e = cc
+absent_told (Some d) false e = refl

@@ -1,6 +1,8 @@
 -- The open windows with a mark above l: those whose stored mark is, and those whose page has sunk below l since.
-use Rattle.std.proofs.Common.{◌≡◌, ℕ, zero, suc, ◌+◌, ◌-◌, ◌%◌, ◌<◌, ◌≤◌, max, cond, eqb, ltb, List, [], ◌∷◌, length, get_or, drop, Some, None, Option, sym, refl, ap, ◌∙◌, inl, inr, add-one, arith}
-use Rattle.std.proofs.lemmas.List.{get_or-map}
+use Rattle.std.proofs.Common.{◌≡◌, ℕ, zero, suc, ◌+◌, ◌-◌, ◌<◌, ◌≤◌, max, Bool, false, cond, eqb, ltb, List, [], ◌∷◌, length, get_or, take, drop, Some, None, Option, sym, refl, ap, ◌∙◌, inl, inr, add-one, arith}
+use Rattle.std.specs.List.{count_by}
+use Rattle.std.proofs.lemmas.List.{get_or-map, take_all}
+use Rattle.std.proofs.lemmas.List.Sums.{sum_by_more}
 use Rattle.std.proofs.lemmas.Bool.{lt-ltb, le-ltb}
 use Rattle.lists.specs.Weights.{occ, one, total, weigh}
 use Rattle.lists.specs.Places.{place}
@@ -9,28 +11,46 @@ use Rattle.lists.proofs.Totals.{total_add, total-occ}
 use Rattle.lists.proofs.Places.{beyond}
 use Rattle.links.specs.Chain.{Chain}
 use Rattle.model.specs.Windows.{raised, over, shallow}
-use Rattle.model.specs.Rows.{wrapped}
 use Rattle.census.specs.declared.page.PageRecord.{PageRecord}
 use Rattle.census.specs.Views.{marks, blank}
 use Rattle.census.specs.Sinking.{shallow_at, Sinking}
 
-pub marked_more : (t : List PageRecord) (l i marked here : ℕ) → i < length t → marked ≡ wrapped (total i (λ q. over l (get_or (marks t) q None))) → here ≡ over l (get_or t i blank).mark →
-    (marked + here) % 4294967296 ≡ wrapped (total (i + 1) (λ q. over l (get_or (marks t) q None)))
-marked_more t l i marked here h e f = rw add-one (omega (arith, e, f ∙ ap (over l) (sym (get_or-map (λ (r : PageRecord). r.mark) t i blank None h))))
+-- Whether a window is open with a mark above l.
+abbrev pub is_over : ℕ → Option ℕ → Bool
+is_over l None = false
+is_over l (Some m) = ltb l m
+
+one_over : (l : ℕ) (m : Option ℕ) → over l m ≡ one (is_over l m)
+one_over l None = refl
+one_over l (Some m) = refl
+
+-- The records whose mark is above l, counted one after the other and as a total over their places.
+abbrev over_here : ℕ → PageRecord → Bool
+over_here l r = is_over l r.mark
+
+counted_over : (l : ℕ) (t : List PageRecord) (k : ℕ) → k ≤ length t → count_by (over_here l) (take k t) ≡ total k (λ q. over l (get_or (marks t) q None))
+counted_over l t zero h = refl
+counted_over l t (suc k) h =
+    let low : k < length t = omega arith in
+    let here : over l (get_or (marks t) k None) ≡ one (over_here l (get_or t k blank)) = ap (over l) (get_or-map (λ (r : PageRecord). r.mark) t k blank None low) ∙ one_over l (get_or t k blank).mark in
+    rw (← add-one k) (sum_by_more (λ r. cond (over_here l r) 1 0) t k blank low ∙ omega (arith, counted_over l t k (omega arith), here))
+
+pub count_over : (l : ℕ) (t : List PageRecord) → count_by (λ (r : PageRecord). is_over l r.mark) t ≡ total (length t) (λ q. over l (get_or (marks t) q None))
+count_over l t = ap (count_by (over_here l)) (sym (take_all (length t) t (omega arith))) ∙ counted_over l t (length t) (omega arith)
 
 module _ (links stored : List (Option ℕ)) (n l : ℕ) where
-  pub sink_starts : (first : Option ℕ) (bs : List ℕ) → Chain links n first bs → length bs ≤ n → Sinking links stored n l first 0 0 (weigh (shallow_at l stored) (drop l bs))
-  sink_starts first bs ch le = let z : l - 0 ≡ l = omega arith in record { rest = bs; chain = ch; fits = omega arith; sums = rw z (omega arith) }
+  nothing_left : (i sunk whole : ℕ) (rest : List ℕ) → length rest ≡ 0 → sunk + weigh (shallow_at l stored) (drop i rest) ≡ whole → sunk ≡ whole
+  nothing_left zero sunk whole [] z g = omega (arith, g)
+  nothing_left (suc i) sunk whole [] z g = omega (arith, g)
+  nothing_left i sunk whole (x ∷ xs) z g = absurd (omega arith)
 
-  ended : (at : Option ℕ) (ahead sunk whole : ℕ) (rest : List ℕ) → at ≡ None → Chain links n at rest → (sunk + weigh (shallow_at l stored) (drop (l - ahead) rest)) % 4294967296 ≡ whole % 4294967296 → sunk % 4294967296 ≡ whole % 4294967296
-  ended at ahead sunk whole [] e ch g = none (l - ahead) g where
-    none : (i : ℕ) → (sunk + weigh (shallow_at l stored) (drop i [])) % 4294967296 ≡ whole % 4294967296 → sunk % 4294967296 ≡ whole % 4294967296
-    none zero g = omega (arith, g)
-    none (suc i) g = omega (arith, g)
-  ended at ahead sunk whole (x ∷ xs) e ch g = let h = ch.0 in let z : ◌≡◌ {A = ℕ} 0 1 = cc (h, e) in absurd (omega arith)
+  ended : (at : Option ℕ) (rest : List ℕ) → at ≡ None → Chain links n at rest → length rest ≡ 0
+  ended at [] e ch = refl
+  ended at (x ∷ xs) e ch = let h = ch.0 in let z : ◌≡◌ {A = ℕ} 0 1 = cc (h, e) in absurd (omega arith)
 
-  pub sink_ends : (at : Option ℕ) (ahead sunk whole : ℕ) → at ≡ None → sunk < 4294967296 → Sinking links stored n l at ahead sunk whole → sunk ≡ wrapped whole
-  sink_ends at ahead sunk whole e fits s = omega (arith, ended at ahead sunk whole s.rest e s.chain s.sums)
+  -- The walk ends where there is no link.
+  pub sink_ends : (at : Option ℕ) (ahead sunk whole : ℕ) → at ≡ None → Sinking links stored n l at ahead sunk whole → sunk ≡ whole
+  sink_ends at ahead sunk whole e s = nothing_left (l - ahead) sunk whole s.rest (ended at s.rest e s.chain) s.sums
 
   inside : (at : Option ℕ) (ahead b : ℕ) (rest : List ℕ) → at ≡ Some b → Chain links n at rest → ahead + length rest ≤ n → (ahead < n) × (b < n)
   inside at ahead b [] e ch f = let z : ◌≡◌ {A = ℕ} 0 1 = cc (ch, e) in absurd (omega arith)
@@ -47,7 +67,7 @@ module _ (links stored : List (Option ℕ)) (n l : ℕ) where
   ]
 
   moved : (at next : Option ℕ) (ahead b sunk here whole : ℕ) (rest : List ℕ) → at ≡ Some b → next ≡ get_or links b None → here ≡ cond (ltb ahead l) 0 (shallow_at l stored b) → Chain links n at rest → ahead + length rest ≤ n →
-      (sunk + weigh (shallow_at l stored) (drop (l - ahead) rest)) % 4294967296 ≡ whole % 4294967296 → Sinking links stored n l next (ahead + 1) ((sunk + here) % 4294967296) whole
+      sunk + weigh (shallow_at l stored) (drop (l - ahead) rest) ≡ whole → Sinking links stored n l next (ahead + 1) (sunk + here) whole
   moved at next ahead b sunk here whole [] e to hd ch f g = let z : ◌≡◌ {A = ℕ} 0 1 = cc (ch, e) in absurd (omega arith)
   moved at next ahead b sunk here whole (x ∷ xs) e to hd ch f g =
       let h = ch.0 in
@@ -56,7 +76,7 @@ module _ (links stored : List (Option ℕ)) (n l : ℕ) where
       let found : here ≡ cond (ltb ahead l) 0 (shallow_at l stored x) = hd ∙ ap (λ i. cond (ltb ahead l) 0 (shallow_at l stored i)) (sym same) in
       record { rest = xs; chain = rw there ch.2; fits = omega arith; sums = omega (arith, g, counts_one ahead x xs, found) }
 
-  pub sink_goes : (at next : Option ℕ) (ahead b sunk here whole : ℕ) → at ≡ Some b → next ≡ get_or links b None → here ≡ cond (ltb ahead l) 0 (shallow_at l stored b) → Sinking links stored n l at ahead sunk whole → Sinking links stored n l next (ahead + 1) ((sunk + here) % 4294967296) whole
+  pub sink_goes : (at next : Option ℕ) (ahead b sunk here whole : ℕ) → at ≡ Some b → next ≡ get_or links b None → here ≡ cond (ltb ahead l) 0 (shallow_at l stored b) → Sinking links stored n l at ahead sunk whole → Sinking links stored n l next (ahead + 1) (sunk + here) whole
   sink_goes at next ahead b sunk here whole e to hd s = moved at next ahead b sunk here whole s.rest e to hd s.chain s.fits s.sums
 
 -- A mark raised to a depth is above l if it was, or if the page is behind the first l.

@@ -6,9 +6,10 @@ use Rattle.lists.specs.Places.{place}
 use Rattle.lists.proofs.Weights.{eqb_cases}
 use Rattle.lists.proofs.Places.{place_none}
 use Rattle.lists.proofs.Totals.{total_same}
+use Rattle.model.specs.declared.UseKind.{UseKind}
 use Rattle.model.specs.Order.{Rule, Order, used, depth_of}
 use Rattle.model.specs.Windows.{raised, is_open, absent, noted}
-use Rattle.model.specs.Ledger.{Ledger, shown_read, shown_write, shown_settle}
+use Rattle.model.specs.Ledger.{Ledger, shown_read, shown_write, shown_settle, shown_use}
 use Rattle.model.specs.Rows.{wrapped}
 use Rattle.model.proofs.Uses.{used_out}
 use Rattle.model.proofs.Marks.{raised_twice, place_grows}
@@ -120,6 +121,10 @@ module _ {X : Type 0} (told : X → ℕ) (c : Census X) (t : List PageRecord) (c
         | inl y ↦ rw y.1 (omega arith)
         | inr n ↦ rw n.1 (low_raised c.pages (place q after.bottom) (b.marks q) (m.marks_low q h) (after_low q))
       ]
+
+-- What is meant after a use of one kind is meant after a use of the same kind.
+pub as_used : {X : Type 0} (told : X → ℕ) (c : Census X) (t : List PageRecord) (counts : List ℕ) (b : Ledger) (p : ℕ) (r : Rule) (slots : ℕ) (kind same : UseKind) → kind ≡ same → Means told c t counts (shown_use r slots same p b) → Means told c t counts (shown_use r slots kind p b)
+as_used told c t counts b p r slots kind same e m = rw e m
 
 -- A settle ends the windows of all pages.
 module _ {X : Type 0} (told : X → ℕ) (c c' : Census X) (t t' : List PageRecord) (counts : List ℕ) (b : Ledger) (m : Means told c t counts b) where

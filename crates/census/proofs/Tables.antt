@@ -28,7 +28,6 @@ pub restands : {X : Type 0} (told : X → ℕ) (c : TwoParts X) (t u : List Page
 restands told c t u o s e = record {
   arranged = record {
     sound = rw e.long s.arranged.sound;
-    filled_is = s.arranged.filled_is;
     top_is = s.arranged.top_is;
     bottom_is = relinked (orderly t) (orderly u) c.bottom o.bottom e.next e.prev e.long s.arranged.bottom_is;
     parts_are = λ q h. rw e.part (s.arranged.parts_are q (omega (arith, e.long)));

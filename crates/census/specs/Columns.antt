@@ -1,5 +1,7 @@
 use Rattle.std.specs.Prelude.{◌≡◌, ℕ, ◌+◌, ◌*◌, ◌<◌, ◌≤◌, List, Some, None, Option, slice_index, slice_set}
 use Rattle.lists.specs.Weights.{occ}
+use Rattle.model.specs.declared.UseKind.{UseKind}
+use Rattle.model.specs.declared.UseKind.TheVariants.{Read, Write}
 use Rattle.model.specs.Rows.{wrapped}
 
 -- The count table with one more at a place.
@@ -20,6 +22,11 @@ writes_from n = n + 1
 
 abbrev pub ended_from : ℕ → ℕ
 ended_from n = 2 * (n + 1)
+
+-- Where the column of a kind of use begins.
+abbrev pub uses_from : UseKind → ℕ → ℕ
+uses_from Read n = reads_from n
+uses_from Write n = writes_from n
 
 -- The column that begins at `base` counts the depths ds: its place d says how often d stands among them, modulo 2^32.
 -- No depth is above n, so that all are counted.

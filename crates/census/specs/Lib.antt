@@ -5,3 +5,5 @@ pub mod Columns
 pub mod SameBut
 pub mod Means
 pub mod Sinking
+pub mod Misses
+pub mod SameSize

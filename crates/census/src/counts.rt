@@ -1,46 +1,38 @@
-// The count table: three columns of pages + 1 places. Place d of a column counts what was found at depth d:
+// The count table, which the product asks to be one lent slice: three columns of pages + 1 places. Place d of a column counts what was found at depth d:
 // reads, then writes, then the windows that a write ended with the mark d.
-ghost use Rattle.std.specs.Prelude.{◌≡◌, ◌+◌, ◌≤◌, length, if◌then◌else◌, nat_lt, slice_index};
-ghost use Rattle.lists.specs.Weights.{total};
+ghost use Rattle.std.specs.Prelude.{◌≡◌, ◌≤◌, sum};
 ghost use Rattle.model.specs.Rows.{wrapped};
-ghost use Rattle.model.specs.Windows.{absent};
-ghost use Rattle.census.specs.Columns.{counted, noted_in};
+ghost use Rattle.census.specs.Columns.{noted_in, uses_from};
 
-// One more at a place.
-pub(crate) fn count(counts: &mut [u32], at: usize)
-    ensures { counts.new ≡ counted counts.old at }
+use model::UseKind;
+
+// Where the column of a kind of use begins, for so many pages.
+pub(crate) fn uses_from(kind: UseKind, pages: usize) -> usize
+    requires { pages ≤ 512 }
+    ensures { result ≡ uses_from kind pages }
 {
-    if at < counts.len() {
-        counts[at] = counts[at].wrapping_add(1);
+    match kind {
+        UseKind::Read => 0,
+        UseKind::Write => pages + 1,
     }
 }
 
-// Counts what was found, if anything, in the column that begins at `base`. Answers 1 where nothing was found.
-pub(crate) fn note_found(counts: &mut [u32], base: usize, found: Option<usize>) -> u32
-    requires { base ≤ length counts.old }
-    ensures counts { counts.new ≡ noted_in base found counts.old }
-    ensures new { result ≡ absent found }
+// Counts what was found, if anything, in the column that begins at `base`.
+pub(crate) fn note(counts: &mut [u32], base: usize, found: Option<usize>)
+    ensures { counts.new ≡ noted_in base found counts.old }
 {
-    match found {
-        None => 1,
-        Some(depth) => {
-            if depth < counts.len() - base {
-                count(counts, base + depth);
-            }
-            0
-        }
+    if let Some(depth) = found
+        && depth < counts.len().saturating_sub(base)
+    {
+        counts[base + depth] = counts[base + depth].wrapping_add(1);
     }
 }
 
-// The sum of the places from `from` up to `to` of the column that begins at `base`.
-pub(crate) fn tally(counts: &[u32], base: usize, from: usize, to: usize) -> u32
-    requires order { from ≤ to }
-    requires within { base + to ≤ length counts.now }
-    ensures { result ≡ wrapped (total to (λ d. (if nat_lt d from then 0 else slice_index counts.now (base + d)))) }
+// The sum of some places.
+pub(crate) fn tally(places: &[u32]) -> u32
+    ensures { result ≡ wrapped (sum places.now) }
 {
-    let mut sum: u32 = 0;
-    for d in from..to {
-        sum = sum.wrapping_add(counts[base + d]);
-    }
-    sum
+    places
+        .iter()
+        .fold(0, |sum: u32, count| sum.wrapping_add(*count))
 }

@@ -2,7 +2,8 @@
 // what a pager of that size would have fetched, faulted, reclaimed, evicted and saved.
 //
 // It follows a pager whose bottom is without limit. It keeps one record for each page in the caller's page table,
-// and its counts in the caller's count table. The tables go with every call.
+// and its counts in the caller's count table. The tables go with every call: a row reads them shared, so that a struct of
+// two `&mut` slices would ask more of its caller, and each contract would have to say that it still holds the same two.
 #![tactic(auto)]
 
 mod checks;

@@ -2,31 +2,25 @@
 ghost use Rattle.std.specs.Prelude.{◌≡◌};
 ghost use Rattle.census.specs.Numbers.{number_of};
 
-#[derive(Clone, Copy)]
+// The reasons, with the number by which each is known.
+#[derive(Clone, Copy, PartialEq, Eq, Debug)]
 pub enum CensusRefusal {
     // the page count is not from 1 to 512
-    PageCount,
+    PageCount = 31,
     // the top has no slot, or more than 64
-    TopSize,
+    TopSize = 4,
     // a table is too short for the page count
-    ShortTable,
+    ShortTable = 5,
     // the page is not below the page count
-    NoSuchPage,
+    NoSuchPage = 2,
     // the bottom size is above the page count
-    NoSuchRow,
+    NoSuchRow = 6,
 }
 
-impl CensusRefusal {
-    // The number by which listings name the refusal.
-    pub fn number(&self) -> u8
-        ensures { result ≡ number_of self.now }
-    {
-        match self {
-            CensusRefusal::PageCount => 31,
-            CensusRefusal::TopSize => 4,
-            CensusRefusal::ShortTable => 5,
-            CensusRefusal::NoSuchPage => 2,
-            CensusRefusal::NoSuchRow => 6,
-        }
+impl From<CensusRefusal> for u8 {
+    ghost from_gives = { λ refusal n. n ≡ number_of refusal };
+
+    fn from(refusal: CensusRefusal) -> u8 {
+        refusal as u8
     }
 }

@@ -1,66 +1,43 @@
 // Showing calls to the census.
 ghost use Rattle.std.specs.Prelude.{◌≡◌, ℕ, ◌<◌, ◌≤◌, false, length, drop, is_ok, Ok, Err};
 ghost use Rattle.model.specs.Order.{rule_of};
-ghost use Rattle.model.specs.Ledger.{Ledger, shown_read, shown_write, shown_settle, shown_use, shown};
+ghost use Rattle.model.specs.Ledger.{Ledger, shown_settle, shown_use, shown};
 ghost use Rattle.census.specs.Refusals.{may_keep, may_show, may_take, needed};
+ghost use Rattle.census.specs.SameSize.{SameSize};
 ghost use Rattle.census.specs.Means.{Means, Keeps};
 
-use super::checks::{may_keep, may_show};
-use super::counts::note_found;
+use super::counts::{note, uses_from};
 use super::page::PageRecord;
 use super::refusal::CensusRefusal;
 use super::state::Census;
-use super::windows::{end_windows, raise, set_mark};
+use super::windows::end_windows;
 use model::{Call, UseKind};
 use rules::TopRule;
 
 impl<R: TopRule> Census<R> {
-    // A read, in tables that are as long as the census needs.
-    fn read_seen(&mut self, table: &mut [PageRecord], counts: &mut [u32], page: usize)
-        requires within { page < length table.old }
-        requires wide { length counts.old ≡ needed self.old.pages }
-        ensures step { (b : Ledger) → Means R.TopRule.told self.old table.old counts.old b → Means R.TopRule.told self.new table.new counts.new (shown_read (rule_of R.TopRule.slot R.TopRule.next) self.old.parts.slots page b) }
-        ensures pages { self.new.pages ≡ self.old.pages }
-        ensures slots { self.new.parts.slots ≡ self.old.parts.slots }
-    {
-        let found = self.parts.depth_of(table, page);
-        let new = note_found(counts, 0, found);
-        self.new_reads = self.new_reads.wrapping_add(new);
-        let mark = raise(table[page].mark, found.unwrap_or(0));
-        set_mark(table, page, mark);
-        self.parts.touch(table, page);
-        self.calls = self.calls.wrapping_add(1);
-    }
-
-    // A write, likewise.
-    fn write_seen(&mut self, table: &mut [PageRecord], counts: &mut [u32], page: usize)
-        requires within { page < length table.old }
-        requires wide { length counts.old ≡ needed self.old.pages }
-        ensures step { (b : Ledger) → Means R.TopRule.told self.old table.old counts.old b → Means R.TopRule.told self.new table.new counts.new (shown_write (rule_of R.TopRule.slot R.TopRule.next) self.old.parts.slots page b) }
-        ensures pages { self.new.pages ≡ self.old.pages }
-        ensures slots { self.new.parts.slots ≡ self.old.parts.slots }
-    {
-        let found = self.parts.depth_of(table, page);
-        let new = note_found(counts, self.pages + 1, found);
-        self.new_writes = self.new_writes.wrapping_add(new);
-        let mark = raise(table[page].mark, found.unwrap_or(0));
-        note_found(counts, 2 * (self.pages + 1), mark);
-        set_mark(table, page, Some(0));
-        self.parts.touch(table, page);
-        self.calls = self.calls.wrapping_add(1);
-    }
-
-    // A use of either kind, likewise.
+    // A use, in tables that are as long as the census needs.
     fn use_seen(&mut self, table: &mut [PageRecord], counts: &mut [u32], kind: UseKind, page: usize)
-        requires within { page < length table.old }
-        requires wide { length counts.old ≡ needed self.old.pages }
+        requires { page < length table.old }
         ensures step { (b : Ledger) → Means R.TopRule.told self.old table.old counts.old b → Means R.TopRule.told self.new table.new counts.new (shown_use (rule_of R.TopRule.slot R.TopRule.next) self.old.parts.slots kind page b) }
-        ensures pages { self.new.pages ≡ self.old.pages }
-        ensures slots { self.new.parts.slots ≡ self.old.parts.slots }
+        ensures same { SameSize self.old self.new }
     {
+        let found = self.parts.depth_of(table, page);
+        // A page that is new is at no depth: 0 raises no mark.
+        let mark = table[page].mark.map(|mark| mark.max(found.unwrap_or(0)));
+        self.parts.touch(table, page);
+        self.calls = self.calls.wrapping_add(1);
+        note(counts, uses_from(kind, self.pages), found);
+        let new = u32::from(found.is_none());
         match kind {
-            UseKind::Read => self.read_seen(table, counts, page),
-            UseKind::Write => self.write_seen(table, counts, page),
+            UseKind::Read => {
+                self.new_reads = self.new_reads.wrapping_add(new);
+                table[page].mark = mark;
+            }
+            UseKind::Write => {
+                self.new_writes = self.new_writes.wrapping_add(new);
+                note(counts, 2 * (self.pages + 1), mark);
+                table[page].mark = Some(0);
+            }
         }
     }
 
@@ -74,11 +51,11 @@ impl<R: TopRule> Census<R> {
     ) -> Result<(), CensusRefusal>
         ensures answer { result ≡ may_show self.old.pages (length table.old) (length counts.old) page }
         ensures refused { is_ok result ≡ false → (self.new ≡ self.old) × (table.new ≡ table.old) × (counts.new ≡ counts.old) }
-        ensures same { (self.new.pages ≡ self.old.pages) × (self.new.parts.slots ≡ self.old.parts.slots) }
+        ensures same { SameSize self.old self.new }
         ensures rest { (drop self.old.pages table.new ≡ drop self.old.pages table.old) × (drop (needed self.old.pages) counts.new ≡ drop (needed self.old.pages) counts.old) }
         ensures step { (b : Ledger) → Keeps R.TopRule.told self.old table.old counts.old b → result ≡ Ok tt → Keeps R.TopRule.told self.new table.new counts.new (shown_use (rule_of R.TopRule.slot R.TopRule.next) self.old.parts.slots kind page b) }
     {
-        may_show(self.pages, table.len(), counts.len(), page)?;
+        self.may_show(table, counts, page)?;
         let pages = self.pages;
         self.use_seen(
             &mut table[0..pages],
@@ -97,18 +74,18 @@ impl<R: TopRule> Census<R> {
     ) -> Result<(), CensusRefusal>
         ensures answer { result ≡ may_keep self.old.pages (length table.old) (length counts.old) }
         ensures refused { is_ok result ≡ false → (self.new ≡ self.old) × (table.new ≡ table.old) × (counts.new ≡ counts.old) }
-        ensures same { (self.new.pages ≡ self.old.pages) × (self.new.parts.slots ≡ self.old.parts.slots) }
+        ensures same { SameSize self.old self.new }
         ensures rest { (drop self.old.pages table.new ≡ drop self.old.pages table.old) × (counts.new ≡ counts.old) }
         ensures step { (b : Ledger) → Keeps R.TopRule.told self.old table.old counts.old b → result ≡ Ok tt → Keeps R.TopRule.told self.new table.new counts.new (shown_settle self.old.pages b) }
     {
-        may_keep(self.pages, table.len(), counts.len())?;
+        self.may_keep(table, counts)?;
         let ended = end_windows(&mut table[0..self.pages]);
         self.settled = self.settled.wrapping_add(ended);
         self.calls = self.calls.wrapping_add(1);
         Ok(())
     }
 
-    // Shows the census a call, of whichever kind.
+    // Shows the census a call, of whichever kind: a call is data, read from a recording, so a match and no closure.
     pub fn show(
         &mut self,
         table: &mut [PageRecord],
@@ -117,7 +94,7 @@ impl<R: TopRule> Census<R> {
     ) -> Result<(), CensusRefusal>
         ensures answer { result ≡ may_take self.old.pages (length table.old) (length counts.old) call }
         ensures refused { is_ok result ≡ false → (self.new ≡ self.old) × (table.new ≡ table.old) × (counts.new ≡ counts.old) }
-        ensures same { (self.new.pages ≡ self.old.pages) × (self.new.parts.slots ≡ self.old.parts.slots) }
+        ensures same { SameSize self.old self.new }
         ensures rest { (drop self.old.pages table.new ≡ drop self.old.pages table.old) × (drop (needed self.old.pages) counts.new ≡ drop (needed self.old.pages) counts.old) }
         ensures step { (b : Ledger) → Keeps R.TopRule.told self.old table.old counts.old b → result ≡ Ok tt → Keeps R.TopRule.told self.new table.new counts.new (shown (rule_of R.TopRule.slot R.TopRule.next) self.old.pages self.old.parts.slots b call) }
     {

@@ -1,15 +1,11 @@
-use Rattle.std.proofs.Common.{◌≡◌, length, get_or, None, ap, ◌∙◌, arith}
-use Rattle.lists.specs.Weights.{total}
-use Rattle.model.specs.Windows.{over}
-use Rattle.model.specs.Rows.{wrapped}
-use Rattle.census.specs.Views.{marks}
-use Rattle.census.proofs.Sinking.{marked_more}
+use Rattle.std.proofs.Common.{rules, ◌≡◌, ◌∙◌, arith}
+use Rattle.std.specs.List.{count_by}
+use Rattle.std.proofs.lemmas.List.Sums.{count_by-le-length}
+use Rattle.census.specs.declared.page.PageRecord.{PageRecord}
+use Rattle.census.proofs.Sinking.{is_over, count_over}
 use Rattle.census.proofs.rows.marked_above.Goals as goal
-
-pub loop-page-preserved : goal.loop-page-preserved
-loop-page-preserved c = marked_more c.args.table.now c.args.l c.loop-page.page c.loop-page.marked c.over_here-marked.result c.loop-page-test.true c.loop-page.invariant c.over_here-marked.ensures
 
 pub returns : goal.returns
 returns c =
-    let all : c.loop-page.page ≡ length c.args.table.now = omega arith in
-    c.loop-page.invariant ∙ ap (λ i. wrapped (total i (λ q. over c.args.l (get_or (marks c.args.table.now) q None)))) all
+    let run : c.count.result ≡ count_by (λ (r : PageRecord). is_over c.args.l r.mark) c.args.table.now = search rules in
+    record { bound = omega (arith, run, count_by-le-length (λ (r : PageRecord). is_over c.args.l r.mark) c.args.table.now); marked = run ∙ count_over c.args.l c.args.table.now }

@@ -6,7 +6,9 @@ use Rattle.census.specs.Views.{marks}
 use Rattle.census.specs.SameBut.{SameBut}
 use Rattle.census.proofs.windows.end_windows.Given as goal
 
-abbrev pub invariant-loop-page : goal.invariant-loop-page
-invariant-loop-page l = SameBut l.initial.table l.table
-    × ((q : ℕ) → get_or (marks l.table) q None ≡ cond (ltb q l.page) None (get_or (marks l.initial.table) q None))
-    × (l.ended ≡ wrapped (total l.page (λ q. is_open (get_or (marks l.initial.table) q None))))
+abbrev pub invariant-loop-record : goal.invariant-loop-record
+invariant-loop-record l = record {
+  same : SameBut l.initial.table l.table;
+  closed : (q : ℕ) → get_or (marks l.table) q None ≡ cond (ltb q l.record-index) None (get_or (marks l.initial.table) q None);
+  counted : l.ended ≡ wrapped (total l.record-index (λ q. is_open (get_or (marks l.initial.table) q None)));
+}

@@ -13,7 +13,7 @@ returns g c =
     record {
       answer = c.in_ok-may_keep.ensures;
       refused = λ e. absurd (true≢false e);
-      same = (refl, refl);
+      same = record { pages = refl; slots = refl };
       rest = (back_kept n (n - 0) c.args.table.now c.end_windows-ended.new.table (omega arith) (c.end_windows-ended.auto.table ∙ front_long n (n - 0) c.args.table.now (omega arith) room.0), refl);
       step = λ b k ok. from_table g.R.TopRule.told _ c.end_windows-ended.new.table _ c.args.counts.now _
           (settle_means g.R.TopRule.told c.args.self.now _ (take (n - 0) c.args.table.now) c.end_windows-ended.new.table (take (needed n) c.args.counts.now) b
