@@ -8,10 +8,9 @@ use Rattle.census.specs.Refusals.{may_keep, needed}
 use Rattle.lines.specs.declared.Header.{Header}
 use Rattle.recordings.specs.declared.RunFault.{RunFault}
 use Rattle.recordings.specs.declared.RunFault.TheVariants.{TableShort}
-use Rattle.recordings.specs.Passes.{calls_in}
 use Rattle.recordings.specs.Whole.{Recording, calls_of}
 use Rattle.counting.specs.declared.counted.Counted.{Counted}
-use Rattle.counting.specs.Calls.{model_calls, calls_found}
+use Rattle.counting.specs.Calls.{model_calls}
 use Rattle.counting.specs.Counted.{pages_in, slots_in, KeepsIn}
 
 -- The rule that a header names: the oldest by O, else the lottery.
@@ -26,14 +25,14 @@ start_in h = cond (h.rule == 79) 0 h.seed
 abbrev pub ledger_of : Recording → Ledger
 ledger_of r = shown_all (rule_in r.header) r.header.pages r.header.top (unseen (start_in r.header)) (model_calls r.calls)
 
--- A census was opened by a header, under the rule that it names, and was shown the calls of the lines after it.
-pub record CountedUnder (h : Header) (rest : List ℕ) (t₀ : List PageRecord) (counts₀ : List ℕ) (c : Counted) (t : List PageRecord) (counts : List ℕ) : Type 0 where
-  pub room : may_keep h.pages (length t₀) (length counts₀) ≡ Ok tt
-  pub pages : pages_in c ≡ h.pages
-  pub slots : slots_in c ≡ h.top
-  pub keeps : KeepsIn c t counts (shown_all (rule_in h) h.pages h.top (unseen (start_in h)) (calls_found (calls_in h.pages rest)))
-  pub rest_table : drop h.pages t ≡ drop h.pages t₀
-  pub rest_counts : drop (needed h.pages) counts ≡ drop (needed h.pages) counts₀
+-- A census was opened by a recording's header, under the rule that it names, and was shown the recording's calls.
+pub record CountedUnder (r : Recording) (t₀ : List PageRecord) (counts₀ : List ℕ) (c : Counted) (t : List PageRecord) (counts : List ℕ) : Type 0 where
+  pub room : may_keep r.header.pages (length t₀) (length counts₀) ≡ Ok tt
+  pub pages : pages_in c ≡ r.header.pages
+  pub slots : slots_in c ≡ r.header.top
+  pub keeps : KeepsIn c t counts (ledger_of r)
+  pub rest_table : drop r.header.pages t ≡ drop r.header.pages t₀
+  pub rest_counts : drop (needed r.header.pages) counts ≡ drop (needed r.header.pages) counts₀
 
 -- Whether a recording can be counted in tables of these lengths: its own fault comes first, and then a table that is too short.
 abbrev pub room_for : ℕ → ℕ → Result Recording RunFault → Result (Unit {0}) RunFault

@@ -1,4 +1,5 @@
 // A census under the rule that a header named.
+// An enum with a case for each rule: a trait object may not be made and handed out.
 ghost use Rattle.std.specs.Prelude.{◌≡◌, length, IfOk, Ok, Err, MatchResult};
 ghost use Rattle.model.specs.Ledger.{Ledger};
 ghost use Rattle.model.specs.Rows.{row_of};

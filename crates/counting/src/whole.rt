@@ -3,58 +3,51 @@ ghost use Rattle.std.specs.Prelude.{◌≡◌, ◌<◌, ◌≤◌, false, length
 ghost use Rattle.std.specs.Result.{result_map_both};
 ghost use Rattle.census.specs.Refusals.{may_keep, needed};
 ghost use Rattle.census.specs.declared.refusal.CensusRefusal.TheVariants.{ShortTable};
-ghost use Rattle.lines.specs.Fit.{HeaderFit};
-ghost use Rattle.recordings.specs.Passes.{calls_in, Sound};
 ghost use Rattle.counting.specs.Under.{Under};
 ghost use Rattle.counting.specs.Whole.{may_count, CountedUnder, CountedAs};
 
 use super::counted::Counted;
-use super::passes::show_lines;
+use super::passes::show_calls;
 use census::{Census, PageRecord};
-use lines::Header;
-use recordings::RunFault;
+use recordings::{Recording, RunFault};
 use rules::{Lottery, Oldest, TopRule};
 
-// Opens a census by a sound header, under a rule, and shows it the calls of sound lines; none where a table is too short.
+// Opens a census by a recording's header, under a rule, and shows it the recording's calls; none where a table is too short.
 fn count_under<R: TopRule + Drop>(
     rule: R,
-    header: Header,
-    rest: &[u8],
+    recording: &Recording,
     table: &mut [PageRecord],
     counts: &mut [u32],
 ) -> Option<Census<R>>
-    requires header { HeaderFit header }
-    requires short { length rest.now ≤ 60000 }
-    requires sound { Sound (calls_in header.pages rest.now) }
-    ensures none { is_some result ≡ false → (may_keep header.pages (length table.old) (length counts.old) ≡ Err ShortTable) × (table.new ≡ table.old) × (counts.new ≡ counts.old) }
-    ensures some { IfSome result (λ c. Under R.TopRule.told R.TopRule.slot R.TopRule.next (R.TopRule.told rule) header rest.now table.old counts.old c table.new counts.new) }
+    ensures none { is_some result ≡ false → (may_keep recording.now.header.pages (length table.old) (length counts.old) ≡ Err ShortTable) × (table.new ≡ table.old) × (counts.new ≡ counts.old) }
+    ensures some { IfSome result (λ c. Under R.TopRule.told R.TopRule.slot R.TopRule.next (R.TopRule.told rule) recording.now table.old counts.old c table.new counts.new) }
 {
+    let header = recording.header();
+    // Written out, since through `ok()?` what the opening promises of the census does not come.
     let Ok(mut census) = Census::open(rule, header.pages as usize, header.top, table, counts) else {
         return None;
     };
-    show_lines(&mut census, table, counts, header.pages, rest);
+    show_calls(&mut census, table, counts, recording.calls());
     Some(census)
 }
 
-// Counts a recording that was checked, under the rule that its header names.
+// Counts a recording under the rule that its header names; none where a table is too short.
 fn count_checked(
-    header: Header,
-    rest: &[u8],
+    recording: &Recording,
     table: &mut [PageRecord],
     counts: &mut [u32],
 ) -> Option<Counted>
-    requires header { HeaderFit header }
-    requires short { length rest.now ≤ 60000 }
-    requires sound { Sound (calls_in header.pages rest.now) }
-    ensures none { is_some result ≡ false → (may_keep header.pages (length table.old) (length counts.old) ≡ Err ShortTable) × (table.new ≡ table.old) × (counts.new ≡ counts.old) }
-    ensures some { IfSome result (λ c. CountedUnder header rest.now table.old counts.old c table.new counts.new) }
+    ensures none { is_some result ≡ false → (may_keep recording.now.header.pages (length table.old) (length counts.old) ≡ Err ShortTable) × (table.new ≡ table.old) × (counts.new ≡ counts.old) }
+    ensures some { IfSome result (λ c. CountedUnder recording.now table.old counts.old c table.new counts.new) }
 {
+    let header = recording.header();
+    // By the letter, of which a checked header has no third.
     if header.rule == Oldest::LETTER {
-        let census = count_under(Oldest::new(), header, rest, table, counts)?;
-        return Some(Counted::Oldest(census));
+        count_under(Oldest::new(), recording, table, counts).map(Counted::Oldest)
+    } else {
+        let rule = Lottery::new(header.seed);
+        count_under(rule, recording, table, counts).map(Counted::Lottery)
     }
-    let census = count_under(Lottery::new(header.seed), header, rest, table, counts)?;
-    Some(Counted::Lottery(census))
 }
 
 // Counts a recording in the caller's tables: opens a census by its header and shows it every call.
@@ -68,9 +61,6 @@ pub fn count(
     ensures refused { is_ok result ≡ false → (table.new ≡ table.old) × (counts.new ≡ counts.old) }
     ensures counted { IfOk result (λ c. CountedAs bytes.now table.old counts.old c table.new counts.new) }
 {
-    let header = recordings::check(bytes)?.header;
-    let Some(counted) = count_checked(header, recordings::after_header(bytes), table, counts) else {
-        return Err(RunFault::TableShort);
-    };
-    Ok(counted)
+    let recording = Recording::parse(bytes)?;
+    count_checked(&recording, table, counts).ok_or(RunFault::TableShort)
 }

@@ -1,3 +1,2 @@
 pub mod Pushed
-pub mod Lines
 pub mod Listed

@@ -1,9 +1,7 @@
 -- The text of a counted recording, or of its fault, is the listing.
-use Rattle.std.proofs.Common.{◌≡◌, ℕ, ◌≤◌, List, [], ◌++◌, Ok, Err, Result, sym, refl, ap, ◌∙◌, arith}
+use Rattle.std.proofs.Common.{◌≡◌, ℕ, ◌≤◌, List, Ok, Err, Result, sym, refl, ap, arith}
 use Rattle.std.specs.Result.{result_map_both}
 use Rattle.std.proofs.lemmas.Bool.{le-ltb}
-use Rattle.model.specs.Ledger.{Ledger}
-use Rattle.census.specs.declared.page.PageRecord.{PageRecord}
 use Rattle.census.specs.Refusals.{needed}
 use Rattle.lines.specs.Fit.{HeaderFit}
 use Rattle.recordings.specs.declared.RunFault.{RunFault}
@@ -11,19 +9,8 @@ use Rattle.recordings.specs.Tells.{tells_of}
 use Rattle.recordings.specs.Whole.{Recording, calls_of, summary_of}
 use Rattle.recordings.proofs.Checked.{checked}
 use Rattle.recordings.proofs.Fits.{checked_header}
-use Rattle.counting.specs.declared.counted.Counted.{Counted}
-use Rattle.counting.specs.Counted.{pages_in, slots_in, KeepsIn}
-use Rattle.counting.specs.Whole.{ledger_of, room_for, may_count, CountedAs}
-use Rattle.listings.specs.Text.{rows_text, fault_line, listing_of, listing_text}
-
-pub listed : (bs bs' : List ℕ) (t₀ : List PageRecord) (counts₀ : List ℕ) (c : Counted) (t : List PageRecord) (counts out none : List ℕ) → CountedAs bs t₀ counts₀ c t counts → bs ≡ bs' → none ≡ [] →
-    ((b : Ledger) → KeepsIn c t counts b → out ≡ none ++ rows_text (pages_in c) (slots_in c) b) → out ≡ listing_text bs'
-listed bs bs' t₀ counts₀ c t counts out none u e z rows =
-    rows (ledger_of u.recording) u.keeps
-    ∙ (ap (λ x. x ++ rows_text (pages_in c) (slots_in c) (ledger_of u.recording)) z
-    ∙ (ap (λ n. rows_text n (slots_in c) (ledger_of u.recording)) u.pages
-    ∙ (ap (λ k. rows_text u.recording.header.pages k (ledger_of u.recording)) u.slots
-    ∙ sym (ap listing_of (ap calls_of (sym e) ∙ u.is)))))
+use Rattle.counting.specs.Whole.{room_for, may_count}
+use Rattle.listings.specs.Text.{fault_line, listing_of, listing_text}
 
 -- The tables of 512 records and 1,539 places suffice for every recording.
 header_fit : (bs : List ℕ) (r : Recording) → calls_of bs ≡ Ok r → HeaderFit r.header
@@ -36,6 +23,5 @@ by_result bs (Ok r) f records places e h g a =
     absurd (omega arith)
 by_result bs (Err x) f records places e h g a = let same : x ≡ f = cc in ap (λ y. fault_line (tells_of y)) same
 
-pub faulted : (bs bs' out none : List ℕ) (f : RunFault) (records places : ℕ) → bs ≡ bs' → none ≡ [] → 512 ≤ records → 1539 ≤ places → Err f ≡ may_count bs records places → out ≡ none ++ fault_line (tells_of f) → out ≡ listing_text bs'
-faulted bs bs' out none f records places e z h g a o =
-    o ∙ (ap (λ x. x ++ fault_line (tells_of f)) z ∙ (sym (by_result bs (calls_of bs) f records places refl h g a) ∙ ap listing_text e))
+pub faulted : (bs : List ℕ) (f : RunFault) (records places : ℕ) → 512 ≤ records → 1539 ≤ places → Err f ≡ may_count bs records places → fault_line (tells_of f) ≡ listing_text bs
+faulted bs f records places h g a = sym (by_result bs (calls_of bs) f records places refl h g a)

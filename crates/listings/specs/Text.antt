@@ -6,19 +6,23 @@ use Rattle.model.specs.Ledger.{Ledger}
 use Rattle.model.specs.Rows.{row_of}
 use Rattle.recordings.specs.declared.RunFault.{RunFault}
 use Rattle.recordings.specs.declared.Told.{Told}
-use Rattle.recordings.specs.Tells.{tells_of}
+use Rattle.recordings.specs.Tells.{tells_of, told_text}
 use Rattle.recordings.specs.Whole.{Recording, calls_of}
 use Rattle.counting.specs.Whole.{ledger_of}
 
--- The line of row l: each number at the right of its columns.
-abbrev pub row_line : ℕ → Row → List ℕ
-row_line l r =
+-- Row l as it is printed: each number at the right of its columns.
+abbrev pub row_text : ℕ → Row → List ℕ
+row_text l r =
     justified 4 l ++ (justified 11 r.fetches ++ (justified 11 r.faults ++ (justified 11 r.reclaims
-    ++ (justified 11 r.evictions ++ (justified 11 r.saves ++ (justified 5 r.rate ++ 10 ∷ []))))))
+    ++ (justified 11 r.evictions ++ (justified 11 r.saves ++ justified 5 r.rate)))))
 
--- The line of a fault: its number, line and column.
+-- The line of row l.
+abbrev pub row_line : ℕ → Row → List ℕ
+row_line l r = row_text l r ++ 10 ∷ []
+
+-- The line of a fault.
 abbrev pub fault_line : Told → List ℕ
-fault_line t = justified 4 t.number ++ (justified 6 t.line ++ (justified 4 t.column ++ 10 ∷ []))
+fault_line t = told_text t ++ 10 ∷ []
 
 -- The heading of the rows.
 abbrev pub heading : List ℕ

@@ -4,25 +4,17 @@
 // Each folder of data/ holds NAME.rec, a recording, and NAME.txt, what the listing program must print for it.
 #![tactic(auto)]
 
-use lines::CallRecord;
 use std::alloc::{AllocError, Global};
-use std::{fs, io};
+use std::{fmt, fs, io};
 
 // How many answers agree, and how many differ.
-#[derive(Clone, Copy)]
+#[derive(Clone, Copy, Default)]
 struct Tally {
     agree: u64,
     differ: u64,
 }
 
 impl Tally {
-    fn new() -> Tally {
-        Tally {
-            agree: 0,
-            differ: 0,
-        }
-    }
-
     // One answer more.
     fn note(&mut self, agrees: bool) {
         if agrees {
@@ -33,8 +25,14 @@ impl Tally {
     }
 }
 
+impl fmt::Display for Tally {
+    fn fmt<W: fmt::Write>(&self, f: &mut fmt::Formatter<W>) -> fmt::Result {
+        write!(f, "{} agree, {} differ", self.agree, self.differ)
+    }
+}
+
 // What was found in one folder.
-#[derive(Clone, Copy)]
+#[derive(Clone, Copy, Default)]
 struct Findings {
     listings: Tally,
     rewritten: Tally,
@@ -49,22 +47,6 @@ fn answer_path(heap: Global, path: &str) -> Result<Option<String>, AllocError> {
     Ok(Some(answer))
 }
 
-// Whether a recording is the same bytes once it is read and written again; none for one that is not accepted.
-fn rewrites(heap: Global, recording: &[u8]) -> Result<Option<bool>, AllocError> {
-    let Ok(summary) = recordings::check(recording) else {
-        return Ok(None);
-    };
-    let none = CallRecord { letter: 0, page: 0 };
-    let mut calls = vec![in heap; none; summary.calls]?;
-    let mut buffer = vec![in heap; 0; recording.len()]?;
-    let answer = writing::rewrite(recording, &mut calls, &mut buffer);
-    let whole = match answer {
-        Ok(length) => length == recording.len(),
-        Err(_) => false,
-    };
-    Ok(Some(whole && buffer.as_slice() == recording))
-}
-
 // One recording, against its answer.
 fn run_one(
     rt: &HostRuntime,
@@ -74,22 +56,19 @@ fn run_one(
 ) -> io::Result<()> {
     let bytes = fs::read(rt, recording)?;
     let expected = fs::read(rt, answer)?;
-    if let Some(same) = rewrites(rt.alloc(), bytes.as_slice())? {
-        found.rewritten.note(same);
+    if let Ok(written) = writing::written_again(rt.alloc(), &bytes)? {
+        found.rewritten.note(written.as_slice() == bytes.as_slice());
     }
-    let listing = listings::listing(rt.alloc(), bytes)?;
+    let listing = listings::listing(rt.alloc(), &bytes)?;
     found
         .listings
-        .note(listing.as_slice() == expected.as_slice());
+        .note(listing.as_bytes() == expected.as_slice());
     Ok(())
 }
 
 // Every recording of one folder.
 fn run_folder(rt: &HostRuntime, folder: &str) -> io::Result<Findings> {
-    let mut found = Findings {
-        listings: Tally::new(),
-        rewritten: Tally::new(),
-    };
+    let mut found = Findings::default();
     for entry in fs::read_dir(rt, folder)? {
         let entry = entry?;
         let path = entry.path();
@@ -104,10 +83,8 @@ fn run_folder(rt: &HostRuntime, folder: &str) -> io::Result<Findings> {
 fn main(rt: HostRuntime) -> anyhow::Result<()> {
     for folder in ["valid", "large", "damaged"] {
         let found = run_folder(&rt, folder)?;
-        let Tally { agree, differ } = found.listings;
-        println!(rt; "{folder}: {agree} agree, {differ} differ")?;
-        let Tally { agree, differ } = found.rewritten;
-        println!(rt; "{folder}, written again: {agree} agree, {differ} differ")?;
+        println!(rt; "{folder}: {}", found.listings)?;
+        println!(rt; "{folder}, written again: {}", found.rewritten)?;
     }
     Ok(())
 }
