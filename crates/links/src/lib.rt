@@ -158,18 +158,6 @@ impl Ends {
         }
     }
 
-    // Has `to` follow `at` and `at` precede `to`.
-    fn join<R: Linked>(&mut self, table: &mut [R], at: Option<usize>, to: Option<usize>)
-        ensures next { nexts R.Linked.links table.new ≡ set_link (nexts R.Linked.links table.old) at to }
-        ensures prev { prevs R.Linked.links table.new ≡ set_link (prevs R.Linked.links table.old) to at }
-        ensures same { SameButLinks R.Linked.links R.Linked.rest table.old table.new }
-        ensures first { self.new.first ≡ end_link self.old.first at to }
-        ensures last { self.new.last ≡ end_link self.old.last to at }
-    {
-        self.follow(table, at, to);
-        self.precede(table, to, at);
-    }
-
     // Takes `p` out of the list. A `p` past the table changes nothing.
     pub fn unlink<R: Linked>(&mut self, table: &mut [R], p: usize)
         ensures list { (xs ys : List ℕ) → HeldIn R.Linked.links table.old self.old (xs ++ (p ∷ ys)) → HeldIn R.Linked.links table.new self.new (xs ++ ys) }
@@ -180,7 +168,8 @@ impl Ends {
             return;
         }
         let Links { next, prev, .. } = table[p].links();
-        self.join(table, prev, next);
+        self.follow(table, prev, next);
+        self.precede(table, next, prev);
     }
 
     // Puts `p`, which is not in the list, in front of it. A `p` past the table changes nothing.
@@ -193,7 +182,9 @@ impl Ends {
             return;
         }
         let old = self.first;
-        self.join(table, None, Some(p));
-        self.join(table, Some(p), old);
+        self.follow(table, None, Some(p));
+        self.precede(table, Some(p), None);
+        self.follow(table, Some(p), old);
+        self.precede(table, old, Some(p));
     }
 }
