@@ -6,7 +6,7 @@ use Rattle.std.proofs.lemmas.Slice.{between-put_mid, take-put_mid_below, drop-pu
 use Rattle.std.proofs.lemmas.Bool.{cases_eq, cases_lt}
 use Rattle.store.specs.declared.tallies.Tallies.{Tallies}
 use Rattle.store.specs.Counting.{one_fetch, one_save}
-use Rattle.store.specs.Memory.{page_of, pages_of, plain}
+use Rattle.store.specs.Memory.{Whole, page_of, pages_of, plain}
 use Rattle.store.specs.SizedPages.{pages_length, pages_read}
 use Rattle.store.specs.Uses.{may_use, Fetched, Saved}
 use Rattle.store.proofs.Calls.{accepted_length, accepted_page}
@@ -59,3 +59,8 @@ module _ (m b x : List ℕ) (p k n : ℕ) (t : Tallies) (n-is : n ≡ length (pa
   plain_saved =
       let w = pages_write m x p k (in_memory m p n (length b) n-is ok) k-is x_long in
       record { answered = rw n-is at ok; effect = cc }
+
+  pub saved_whole : Whole (length m) → Whole (length (put_mid (64 * p) k m x))
+  saved_whole w =
+      let e = length_put m x p k (in_memory m p n (length b) n-is ok) k-is x_long in
+      record { pages = w.pages; some = w.some; few = w.few; long = e ∙ w.long }

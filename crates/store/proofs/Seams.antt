@@ -1,12 +1,13 @@
--- A splice: a save to the part that has the page is a save to the whole.
-use Rattle.std.proofs.Common.{◌≡◌, ℕ, ◌-◌, ◌<◌, ◌≤◌, List, ◌++◌, length, Some, None, Ok, refl, ◌∙◌, arith}
-use Rattle.std.proofs.lemmas.List.{length-append, set-append_left, set-append_right}
+-- A splice: a call of the part that has the page is a call of the whole.
+use Rattle.std.proofs.Common.{◌≡◌, ℕ, ◌+◌, ◌-◌, ◌<◌, ◌≤◌, List, [], ◌++◌, length, Some, None, Ok, Err, Result, refl, ◌∙◌, arith}
+use Rattle.std.proofs.lemmas.List.{length-append, get_or_append_left, get_or-append_right, set-append_left, set-append_right}
 use Rattle.std.proofs.lemmas.Bool.Decides.{nat_tests}
+use Rattle.store.specs.declared.StoreRefusal.{StoreRefusal}
 use Rattle.store.specs.declared.tallies.Tallies.{Tallies}
 use Rattle.store.specs.Meaning.{Meaning}
-use Rattle.store.specs.Counting.{one_save}
+use Rattle.store.specs.Counting.{tick}
 use Rattle.store.specs.Splices.{past_seam, spliced}
-use Rattle.store.specs.Uses.{may_use, Saved}
+use Rattle.store.specs.Uses.{may_use, Fetched, Saved}
 
 -- Which part has a page: the first those below its count, and the second those from there on.
 seam_first : (n page : ℕ) → None ≡ past_seam n page → page < n
@@ -30,10 +31,23 @@ module _ (a b : Meaning) (t : Tallies) (page : ℕ) (buf : List ℕ) (seam : Non
   lt : page < length a.bytes
   lt = seam_first (length a.bytes) page seam
 
-  pub save_first : (a2 : Meaning) → Saved a page buf (Ok tt) a2 → Saved (spliced a b t) page buf (Ok tt) (spliced a2 b (one_save t))
-  save_first a2 w =
+  pub fetch_first : (a2 : Meaning) (buf2 : List ℕ) (r : Result (Unit {0}) StoreRefusal) → Fetched a page buf r a2 buf2 → Fetched (spliced a b t) page buf r (spliced a2 b (record t { fetches = tick r t.fetches })) buf2
+  fetch_first a2 buf2 (Ok u) w =
+      let g = get_or_append_left a.bytes b.bytes [] page lt in
+      let e = w.effect.0 in
+      let x = w.effect.1 in
+      record { answered = w.answered ∙ may_first a.bytes b.bytes page (length buf) lt; effect = (cc, cc) }
+  fetch_first a2 buf2 (Err e) w =
+      let k = w.effect.0 in
+      record { answered = w.answered ∙ may_first a.bytes b.bytes page (length buf) lt; effect = (cc, w.effect.1) }
+
+  pub save_first : (a2 : Meaning) (r : Result (Unit {0}) StoreRefusal) → Saved a page buf r a2 → Saved (spliced a b t) page buf r (spliced a2 b (record t { saves = tick r t.saves }))
+  save_first a2 (Ok u) w =
       let g = set-append_left a.bytes b.bytes page buf lt in
       let e = w.effect in
+      record { answered = w.answered ∙ may_first a.bytes b.bytes page (length buf) lt; effect = cc }
+  save_first a2 (Err e) w =
+      let k = w.effect in
       record { answered = w.answered ∙ may_first a.bytes b.bytes page (length buf) lt; effect = cc }
 
 -- Page q of the second store.
@@ -44,9 +58,31 @@ module _ (a b : Meaning) (t : Tallies) (page q : ℕ) (buf : List ℕ) (seam : S
   place : q ≡ page - length a.bytes
   place = seam_place (length a.bytes) page q seam
 
-  pub save_second : (b2 : Meaning) → Saved b q buf (Ok tt) b2 → Saved (spliced a b t) page buf (Ok tt) (spliced a b2 (one_save t))
-  save_second b2 w =
+  pub fetch_second : (b2 : Meaning) (buf2 : List ℕ) (r : Result (Unit {0}) StoreRefusal) → Fetched b q buf r b2 buf2 → Fetched (spliced a b t) page buf r (spliced a b2 (record t { fetches = tick r t.fetches })) buf2
+  fetch_second b2 buf2 (Ok u) w =
+      let g = get_or-append_right a.bytes b.bytes (length a.bytes) page [] refl le in
+      let p = place in
+      let e = w.effect.0 in
+      let x = w.effect.1 in
+      record { answered = w.answered ∙ may_second a.bytes b.bytes page q (length buf) le place; effect = (cc, cc) }
+  fetch_second b2 buf2 (Err e) w =
+      let k = w.effect.0 in
+      record { answered = w.answered ∙ may_second a.bytes b.bytes page q (length buf) le place; effect = (cc, w.effect.1) }
+
+  pub save_second : (b2 : Meaning) (r : Result (Unit {0}) StoreRefusal) → Saved b q buf r b2 → Saved (spliced a b t) page buf r (spliced a b2 (record t { saves = tick r t.saves }))
+  save_second b2 (Ok u) w =
       let g = set-append_right a.bytes b.bytes (length a.bytes) page buf refl le in
       let p = place in
       let e = w.effect in
       record { answered = w.answered ∙ may_second a.bytes b.bytes page q (length buf) le place; effect = cc }
+  save_second b2 (Err e) w =
+      let k = w.effect in
+      record { answered = w.answered ∙ may_second a.bytes b.bytes page q (length buf) le place; effect = cc }
+
+-- A splice stays one where a part keeps as many pages.
+module _ (a b : Meaning) (few : length a.bytes + length b.bytes ≤ 512) where
+  pub joined_first : (a2 : Meaning) → length a2.bytes ≡ length a.bytes → length a2.bytes + length b.bytes ≤ 512
+  joined_first a2 e = omega (arith, few)
+
+  pub joined_second : (b2 : Meaning) → length b2.bytes ≡ length b.bytes → length a.bytes + length b2.bytes ≤ 512
+  joined_second b2 e = omega (arith, few)

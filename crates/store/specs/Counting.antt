@@ -1,4 +1,5 @@
-use Rattle.std.specs.Prelude.{ℕ, ◌+◌, ◌%◌}
+use Rattle.std.specs.Prelude.{ℕ, ◌+◌, ◌%◌, Ok, Err, Result}
+use Rattle.store.specs.declared.StoreRefusal.{StoreRefusal}
 use Rattle.store.specs.declared.tallies.Tallies.{Tallies}
 
 -- A tally after one more: it comes back to 0 after 4,294,967,295.
@@ -12,3 +13,8 @@ one_fetch t = record t { fetches = counted t.fetches }
 -- The tallies after one more accepted save.
 abbrev pub one_save : Tallies → Tallies
 one_save t = record t { saves = counted t.saves }
+
+-- A tally after a call that answered r: only an accepted call is counted.
+abbrev pub tick : Result (Unit {0}) StoreRefusal → ℕ → ℕ
+tick (Ok u) n = counted n
+tick (Err e) n = n
