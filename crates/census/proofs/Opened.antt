@@ -10,7 +10,7 @@ use Rattle.order.specs.Stands.{AllUnused, Stands}
 use Rattle.census.specs.declared.page.PageRecord.{PageRecord}
 use Rattle.census.specs.declared.state.Census.{Census}
 use Rattle.census.specs.Views.{blank, orderly}
-use Rattle.census.specs.Refusals.{needed, may_open, may_keep}
+use Rattle.census.specs.Refusals.{needed, may_open, may_keep, may_show, may_ask}
 use Rattle.census.specs.Columns.{Column}
 use Rattle.census.specs.Means.{Means}
 
@@ -34,6 +34,12 @@ open_room n k records places e = (grind (arith, nat_tests), grind (arith, nat_te
 -- So has a call that is not refused.
 pub keep_room : (n records places : ℕ) → may_keep n records places ≡ Ok tt → (n ≤ records) × (needed n ≤ places)
 keep_room n records places e = (grind (arith, nat_tests), grind (arith, nat_tests))
+
+pub show_room : (n records places page : ℕ) → may_show n records places page ≡ Ok tt → (n ≤ records) × (needed n ≤ places)
+show_room n records places page e = (grind (arith, nat_tests), grind (arith, nat_tests))
+
+pub ask_room : (n records places l : ℕ) → may_ask n records places l ≡ Ok tt → (n ≤ records) × (needed n ≤ places)
+ask_room n records places l e = (grind (arith, nat_tests), grind (arith, nat_tests))
 
 pub opened_means : {X : Type 0} (told : X → ℕ) (c : Census X) (rule : X) (t : List PageRecord) (counts : List ℕ) → t ≡ replicate c.pages blank → counts ≡ replicate (needed c.pages) 0 →
     c.new_reads ≡ 0 → c.new_writes ≡ 0 → c.settled ≡ 0 → c.calls ≡ 0 → ((v : Views) → AllUnused v → Stands told c.parts v (fresh (told rule))) → Means told c t counts (unseen (told rule))

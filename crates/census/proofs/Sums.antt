@@ -13,7 +13,7 @@ use Rattle.census.specs.Columns.{Column}
 abbrev pub from_on : List ℕ → ℕ → ℕ → ℕ
 from_on xs from d = cond (ltb d from) 0 (get_or xs d 0)
 
-none_below : (xs : List ℕ) (from : ℕ) → total from (from_on xs from) ≡ 0
+pub none_below : (xs : List ℕ) (from : ℕ) → total from (from_on xs from) ≡ 0
 none_below xs from = total_zero (from_on xs from) from (λ q h. rw (lt-ltb q from h))
 
 -- They sum up as the function does.

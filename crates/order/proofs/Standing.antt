@@ -38,12 +38,30 @@ pub none_part : (a b : ℕ) → a ≡ 0 → b ≡ 0 → Unused ≡ part_by a b
 none_part a b y z = rw (le-ltb 0 a (omega arith), le-ltb 0 b (omega arith))
 
 -- What a part tells of where the page stands.
+pub told_top : (a b : ℕ) → part_by a b ≡ Top → 0 < a
+told_top a b e = elim (ltb_cases 0 a) [
+  | inl y ↦ y.0
+  | inr n ↦ elim (ltb_cases 0 b) [
+    | inl y ↦ let z : ◌≡◌ {A = ℕ} 0 1 = cc (rw (n.1, y.1) at e) in absurd (omega arith)
+    | inr m ↦ let z : ◌≡◌ {A = ℕ} 0 1 = cc (rw (n.1, m.1) at e) in absurd (omega arith)
+  ]
+]
+
 pub told_bottom : (a b : ℕ) → part_by a b ≡ Bottom → (a ≡ 0) × (0 < b)
 told_bottom a b e = elim (ltb_cases 0 a) [
   | inl y ↦ let z : ◌≡◌ {A = ℕ} 0 1 = cc (rw y.1 at e) in absurd (omega arith)
   | inr n ↦ elim (ltb_cases 0 b) [
     | inl y ↦ (omega (arith, n.0), y.0)
     | inr m ↦ let z : ◌≡◌ {A = ℕ} 0 1 = cc (rw (n.1, m.1) at e) in absurd (omega arith)
+  ]
+]
+
+pub told_unused : (a b : ℕ) → part_by a b ≡ Unused → (a ≡ 0) × (b ≡ 0)
+told_unused a b e = elim (ltb_cases 0 a) [
+  | inl y ↦ let z : ◌≡◌ {A = ℕ} 0 1 = cc (rw y.1 at e) in absurd (omega arith)
+  | inr n ↦ elim (ltb_cases 0 b) [
+    | inl y ↦ let z : ◌≡◌ {A = ℕ} 0 1 = cc (rw (n.1, y.1) at e) in absurd (omega arith)
+    | inr m ↦ (omega (arith, n.0), omega (arith, m.0))
   ]
 ]
 
@@ -143,9 +161,25 @@ module _ {X : Type 0} (c : TwoParts X) (v : Views) (o : Order) (p : ℕ) (s : Ar
   part_here : (found : Part) → found ≡ get_or v.parts p Unused → part_by (occ p o.top) (occ p o.bottom) ≡ found
   part_here found e = sym (s.parts_are p low) ∙ sym e
 
+  pub depth_unused : (found : Part) → found ≡ get_or v.parts p Unused → found ≡ Unused → None ≡ depth_of p o
+  depth_unused found h e = let z = told_unused (occ p o.top) (occ p o.bottom) (part_here found h ∙ e) in
+      rw (le-ltb 0 (occ p o.top) (omega (arith, z.0)), le-ltb 0 (occ p o.bottom) (omega (arith, z.1)))
+
+  pub in_top : (found : Part) → found ≡ get_or v.parts p Unused → found ≡ Top → has p o.top ≡ true
+  in_top found h e = lt-ltb 0 (occ p o.top) (told_top (occ p o.top) (occ p o.bottom) (part_here found h ∙ e))
+
+  pub depth_top : (found : Part) → found ≡ get_or v.parts p Unused → found ≡ Top → Some 0 ≡ depth_of p o
+  depth_top found h e = rw (in_top found h e)
+
   pub depth_bottom : (found : Part) (d : Option ℕ) → found ≡ get_or v.parts p Unused → found ≡ Bottom → d ≡ place_in p o.bottom → d ≡ depth_of p o
   depth_bottom found d h e f = let z = told_bottom (occ p o.top) (occ p o.bottom) (part_here found h ∙ e) in
       rw (le-ltb 0 (occ p o.top) (omega (arith, z.0))) f
+
+  pub not_in_top : (found : Part) → found ≡ get_or v.parts p Unused → (found ≡ Top → ⊥) → has p o.top ≡ false
+  not_in_top found h ne = elim (ltb_cases 0 (occ p o.top)) [
+    | inl y ↦ absurd (ne (sym (part_here found h) ∙ sym (by_top (occ p o.top) (occ p o.bottom) y.0)))
+    | inr n ↦ n.1
+  ]
 
   pub says_bottom : occ p o.top ≡ 0 → SaysBottom v.parts p o.bottom
   says_bottom z = record {
