@@ -1,7 +1,8 @@
 -- What is read and written again.
-use Rattle.std.proofs.Common.{◌≡◌, ℕ, ◌≤◌, ltb, List, length, take, drop, Ok, Err, Result, sym, refl, ap, ◌∙◌, inl, inr, arith}
-use Rattle.std.proofs.lemmas.List.{take_at}
+use Rattle.std.proofs.Common.{◌≡◌, ℕ, ◌<◌, ◌≤◌, ltb, List, ◌++◌, length, take, drop, Ok, Err, Result, sym, refl, ap, ◌∙◌, inl, inr, arith}
+use Rattle.std.proofs.lemmas.List.{take_at, drop_all, append-nil}
 use Rattle.std.proofs.lemmas.Bool.{cases_lt, cond-true, cond-false, lt-ltb, le-ltb}
+use Rattle.lines.specs.declared.Header.{Header}
 use Rattle.lines.specs.declared.CallRecord.{CallRecord}
 use Rattle.recordings.specs.declared.RunFault.{RunFault}
 use Rattle.recordings.specs.declared.RunFault.TheVariants.{TableShort}
@@ -13,6 +14,15 @@ use Rattle.writing.specs.Whole.{written_text, text_fitted, write_recording, text
 use Rattle.writing.specs.Rewritten.{rewritten, rewrite_recording, if_accepted}
 use Rattle.writing.specs.Laws.{Says, SameBytes}
 use Rattle.writing.proofs.Laws.{same_again, text_in}
+
+-- A buffer shorter than the bytes is refused, whatever room the table has.
+pub buffer_refused : (bs : List ℕ) (r : Recording) (room space : ℕ) → calls_of bs ≡ Ok r → space < length bs → Err TableShort ≡ rewrite_recording bs room space
+buffer_refused bs r room space e less =
+    let w : write_recording r.header r.calls space ≡ Err TableShort = ap (text_fitted space) (same_again bs r.header r.calls e) ∙ cond-true (ltb space (length bs)) _ _ (lt-ltb space (length bs) less) in
+    elim (cases_lt room (length r.calls)) [
+      | inl short ↦ sym (ap (rewritten room space) e ∙ cond-true (ltb room (length r.calls)) _ _ (lt-ltb room (length r.calls) short))
+      | inr fits ↦ sym (ap (rewritten room space) e ∙ cond-false (ltb room (length r.calls)) _ _ (le-ltb room (length r.calls) fits) ∙ w)
+    ]
 
 -- What is known where a reading is accepted: `cs` are the calls that stand first in the table.
 pub record ReadInto (bs : List ℕ) (table : List CallRecord) (s : Summary) (cs : List CallRecord) : Type 0 where
@@ -57,6 +67,20 @@ pub rewritten_again : (bs : List ℕ) (space : ℕ) (table : List CallRecord) (s
 rewritten_again bs space table s cs k fits =
     ap (rewritten (length table) space) k.says ∙ cond-false (ltb (length table) (length cs)) _ _ (le-ltb (length table) (length cs) k.room)
     ∙ ap (text_fitted space) (same_again bs s.header cs k.says) ∙ cond-false (ltb space (length bs)) _ _ (le-ltb space (length bs) fits)
+
+-- The header and the calls of the recording that some bytes are.
+pub said_by : (bs : List ℕ) (r : Recording) (h : Header) (cs : List CallRecord) → calls_of bs ≡ Ok r → h ≡ r.header → cs ≡ r.calls → Says bs h cs
+said_by bs r h cs is e k = is ∙ sym (ap (λ x. Ok (record { header = x; calls = cs })) e ∙ ap (λ xs. Ok (record { header = r.header; calls = xs })) k)
+
+-- What is said by some bytes is never refused where there is room for them, and in a buffer of their length it is the bytes.
+pub said_accepted : (bs : List ℕ) (h : Header) (cs : List CallRecord) (room : ℕ) (r : Result ℕ RunFault) → Says bs h cs → length bs ≤ room → r ≡ write_recording h cs room → r ≡ Ok (length bs)
+said_accepted bs h cs room r says fits is =
+    is ∙ ap (text_fitted room) (same_again bs h cs says) ∙ cond-false (ltb room (length bs)) _ _ (le-ltb room (length bs) fits)
+
+pub said_whole : (bs : List ℕ) (h : Header) (cs : List CallRecord) (buffer new : List ℕ) → Says bs h cs → length buffer ≡ length bs → new ≡ buffer_after h cs buffer → new ≡ bs
+said_whole bs h cs buffer new says long is =
+    is ∙ ap (text_filled buffer) (same_again bs h cs says) ∙ (text_in buffer bs (omega arith)).1
+    ∙ ap (λ xs. bs ++ xs) (drop_all (length bs) buffer (omega arith)) ∙ append-nil bs
 
 by_space : (bs : List ℕ) (space n : ℕ) → Ok n ≡ text_fitted space (Ok bs) → n ≡ length bs
 by_space bs space n is = elim (cases_lt space (length bs)) [

@@ -14,7 +14,7 @@ ghost use Rattle.writing.specs.Rewritten.{rewrite_recording, if_accepted, Writte
 ghost use Rattle.writing.specs.Whole.{short_length, written_text, write_recording, buffer_after};
 
 use lines::{CallRecord, Header, LineFault, LineProblem};
-use recordings::{LONGEST, RunFault};
+use recordings::{LONGEST, Recording, RunFault};
 use std::alloc::{AllocError, Global};
 
 // The bytes of line 1, the byte that ends it included.
@@ -184,17 +184,16 @@ pub fn rewrite(bytes: &[u8], calls: &mut [CallRecord], buffer: &mut [u8]) -> Res
 pub fn written_again(heap: Global, bytes: &[u8]) -> Result<Result<Vec<u8>, RunFault>, AllocError>
     ensures { IfOk result (λ answer. WrittenAgain (result_map_both (λ text. text.items) (λ e. e) answer) bytes.now) }
 {
-    let summary = match recordings::check(bytes) {
-        Ok(summary) => summary,
+    let recording = match Recording::parse(bytes) {
+        Ok(recording) => recording,
         Err(fault) => return Ok(Err(fault)),
     };
-    let unread = CallRecord {
-        letter: b'S',
-        page: 0,
-    };
-    let mut calls = vec![in heap; unread; summary.calls]?;
+    let mut calls = Vec::with_capacity(heap, recording.summary().calls)?;
+    for call in recording.calls() {
+        calls.push(call)?;
+    }
     let mut text = vec![in heap; 0; bytes.len()]?;
-    match rewrite(bytes, &mut calls, &mut text) {
+    match write(recording.header(), &calls, &mut text) {
         Ok(_length) => Ok(Ok(text)),
         Err(fault) => Ok(Err(fault)),
     }
