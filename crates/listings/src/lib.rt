@@ -70,7 +70,11 @@ fn rows(
     requires { may_keep (pages_in counted.now) (length table.now) (length counts.now) ≡ Ok tt }
     ensures { (b : Ledger) → KeepsIn counted.now table.now counts.now b → IfOk result (λ text. string_bytes text ≡ rows_text (pages_in counted.now) (slots_in counted.now) b) }
 {
-    let mut text = String::new(heap);
+    // Room for each line, which is as long as the heading where each number fits its columns.
+    let room = HEADING
+        .len()
+        .saturating_mul(counted.pages().saturating_add(2));
+    let mut text = String::with_capacity(heap, room)?;
     text.push_str(HEADING)?;
     for l in 0..=counted.pages() {
         let row = counted.row(table, counts, l).unwrap();
