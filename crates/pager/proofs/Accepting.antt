@@ -35,6 +35,9 @@ books_set a b = hlevel props
 pub bytes_set : (a b : List ℕ) → IsProp (a ≡ b)
 bytes_set a b = hlevel props
 
+pub counts_set : (a b : ℕ) → IsProp (a ≡ b)
+counts_set a b = hlevel props
+
 pub never_prop : IsProp ⊥
 never_prop = hlevel props
 
@@ -59,7 +62,7 @@ module _ {S R : Type 0} (meaning : S → Meaning) (told : R → ℕ) (P : Works 
   -- A call that is accepted, and the pager Q then.
   module _ (page : ℕ) (low : page < pages_of ready.setting) (Q : Works S R) (r : Rule) (slots : (state : ℕ) → r.slot state ready.setting.slots < ready.setting.slots) where
     module _ (shows : Shows told meaning ready.setting Q (paged_read r ready.setting.slots ready.setting.bottom page ready.model)) where
-      read_ready : Ready meaning told Q
+      pub read_ready : Ready meaning told Q
       read_ready = record {
         setting = ready.setting;
         model = paged_read r ready.setting.slots ready.setting.bottom page ready.model;
@@ -80,7 +83,7 @@ module _ {S R : Type 0} (meaning : S → Meaning) (told : R → ℕ) (P : Works 
           ∙ (sym (page_at ready.book (pages_of ready.setting) page low) ∙ sym (ap (λ xs. get_or xs page []) bytes_are)))
 
     module _ (b : List ℕ) (long : length b ≡ 64) (shows : Shows told meaning ready.setting Q (paged_write r ready.setting.slots ready.setting.bottom page b ready.model)) where
-      write_ready : Ready meaning told Q
+      pub write_ready : Ready meaning told Q
       write_ready = record {
         setting = ready.setting;
         model = paged_write r ready.setting.slots ready.setting.bottom page b ready.model;
@@ -97,6 +100,11 @@ module _ {S R : Type 0} (meaning : S → Meaning) (told : R → ℕ) (P : Works 
       write_keeps : book_of meaning Q ≡ set (book_of meaning P) page b
       unfolding write_ready
       write_keeps = book_is told meaning ready.setting Q write_ready.model (book_step ready.book (writes page b)) shows write_ready.kept ∙ (book_write ready.book (pages_of ready.setting) page b ∙ ap (λ xs. set xs page b) (sym bytes_are))
+
+-- A step that goes along with the model leaves the store below as many pages.
+pub pages_stay : {S R : Type 0} (meaning : S → Meaning) (told : R → ℕ) (P Q : Works S R) → ∥ Ready meaning told P ∥₁ → (f : Setting → Paged → Paged) →
+    ((s : Setting) (w : Paged) → Shows told meaning s P w → Shows told meaning s Q (f s w)) → length (meaning P.below).bytes ≡ length (meaning Q.below).bytes
+pages_stay meaning told P Q ready f step = ∥∥₁_elim ready (counts_set _ _) (λ y. y.shows.store.pages_are ∙ sym (step y.setting y.model y.shows).store.pages_are)
 
 -- The same of a pager that is ready.
 module _ {S R : Type 0} (meaning : S → Meaning) (told : R → ℕ) (P : Works S R) (ready : ∥ Ready meaning told P ∥₁) where
@@ -122,8 +130,11 @@ module _ {S R : Type 0} (meaning : S → Meaning) (told : R → ℕ) (P : Works 
       slots y = rule_below told r y.setting P.table.parts (frames_of P) y.model y.shows.frames below
 
       module _ (shows : (s : Setting) (w : Paged) → Shows told meaning s P w → Shows told meaning s Q (paged_read r s.slots s.bottom page w)) where
+        pub read_goes_on : Ready meaning told P → Ready meaning told Q
+        read_goes_on y = read_ready meaning told P y page (low y) Q r (slots y) (shows y.setting y.model y.shows)
+
         pub read_stays : ∥ Ready meaning told Q ∥₁
-        read_stays = ∥∥₁_map ready (λ y. read_ready meaning told P y page (low y) Q r (slots y) (shows y.setting y.model y.shows))
+        read_stays = ∥∥₁_map ready read_goes_on
 
         pub read_effect : (i : ℕ) (b2 : List ℕ) → In (frames_of Q) page i → b2 ≡ (at (frames_of Q) i).bytes → Fetched (pager_meaning meaning P t) page b (Ok tt) (pager_meaning meaning Q (one_fetch t)) b2
         read_effect i b2 here is = record {
@@ -138,8 +149,11 @@ module _ {S R : Type 0} (meaning : S → Meaning) (told : R → ℕ) (P : Works 
         long : length b ≡ 64
         long = accepted_length (length (meaning P.below).bytes) page (length b) ok
 
+        pub write_goes_on : Ready meaning told P → Ready meaning told Q
+        write_goes_on y = write_ready meaning told P y page (low y) Q r (slots y) b long (shows y.setting y.model y.shows)
+
         pub write_stays : ∥ Ready meaning told Q ∥₁
-        write_stays = ∥∥₁_map ready (λ y. write_ready meaning told P y page (low y) Q r (slots y) b long (shows y.setting y.model y.shows))
+        write_stays = ∥∥₁_map ready write_goes_on
 
         pub write_effect : Saved (pager_meaning meaning P t) page b (Ok tt) (pager_meaning meaning Q (one_save t))
         write_effect = record {

@@ -62,8 +62,8 @@ fresh_shows told meaning s p state first counts frames = record {
 }
 
 -- It is ready.
-pub fresh_ready : {S R : Type 0} (told : R → ℕ) (meaning : S → Meaning) (s : Setting) (p : Works S R) (state : ℕ) → Sized s.first.bytes → Shows told meaning s p (untouched s state) → ∥ Ready meaning told p ∥₁
-fresh_ready told meaning s p state sized shows = ∣ record {
+pub fresh_ready : {S R : Type 0} (told : R → ℕ) (meaning : S → Meaning) (s : Setting) (p : Works S R) (state : ℕ) → Sized s.first.bytes → Shows told meaning s p (untouched s state) → Ready meaning told p
+fresh_ready told meaning s p state sized shows = record {
   setting = s;
   model = untouched s state;
   book = first_bytes s;
@@ -71,4 +71,4 @@ fresh_ready told meaning s p state sized shows = ∣ record {
   shows = shows;
   kept = kept_fresh (pages_of s) s.slots state (first_bytes s);
   long = sized.even;
-} ∣₁
+}

@@ -131,6 +131,29 @@ module _ (m : ℕ) where
         }
 
 module _ {S R : Type 0} (told : R → ℕ) (meaning : S → Meaning) (s : Setting) where
+  -- Before the first page nothing is done.
+  pub partly_none : (P : Works S R) (w : Paged) → Shows told meaning s P w → Shows told meaning s P (partly 0 w)
+  partly_none P w sh = record {
+    frames = record {
+      slots_are = sh.frames.slots_are;
+      room_is = sh.frames.room_is;
+      order_is = sh.frames.order_is;
+      sound = sh.frames.sound;
+      dirty_are = λ q i h. rw (none q) (sh.frames.dirty_are q i h);
+      others_clean = λ q a. rw (none q) (sh.frames.others_clean q a);
+      bytes_are = sh.frames.bytes_are;
+    };
+    store = record {
+      pages_are = sh.store.pages_are;
+      bytes_are = λ q low. rw (none q) (sh.store.bytes_are q low);
+      fetches_are = sh.store.fetches_are;
+      saves_are = sh.store.saves_are ∙ omega arith;
+    };
+    counts = record { hits_are = sh.counts.hits_are; reclaims_are = sh.counts.reclaims_are; faults_are = sh.counts.faults_are; evictions_are = sh.counts.evictions_are };
+  } where
+    none : (q : ℕ) → ltb q 0 ≡ false
+    none q = le-ltb q 0 (omega arith)
+
   -- After the last page everything is.
   pub partly_all : (P : Works S R) (w : Paged) → Shows told meaning s P (partly (pages_of s) w) → Shows told meaning s P (paged_settle (pages_of s) w)
   partly_all P w sh = record {
@@ -162,7 +185,7 @@ module _ {S R : Type 0} (meaning : S → Meaning) (told : R → ℕ) (P Q : Work
   kept' : Kept (pages_of ready.setting) ready.setting.slots (paged_settle (pages_of ready.setting) ready.model) ready.book
   kept' = kept_settle (pages_of ready.setting) ready.setting.slots ready.model ready.book ready.kept
 
-  settle_ready : Ready meaning told Q
+  pub settle_ready : Ready meaning told Q
   settle_ready = record {
     setting = ready.setting;
     model = paged_settle (pages_of ready.setting) ready.model;
@@ -176,7 +199,7 @@ module _ {S R : Type 0} (meaning : S → Meaning) (told : R → ℕ) (P Q : Work
   settle_keeps : book_of meaning Q ≡ book_of meaning P
   settle_keeps = book_is told meaning ready.setting Q (paged_settle (pages_of ready.setting) ready.model) ready.book shows kept' ∙ sym (bytes_are meaning told P ready)
 
-  settle_below : (meaning Q.below).bytes ≡ book_of meaning P
+  pub settle_below : (meaning Q.below).bytes ≡ book_of meaning P
   settle_below = ext_get_or [] _ _ (shows.store.pages_are ∙ sym (pages_length ready.book (pages_of ready.setting))) each ∙ sym (bytes_are meaning told P ready) where
     each : (q : ℕ) → q < length (meaning Q.below).bytes → get_or (meaning Q.below).bytes q [] ≡ get_or (pages_by ready.book (pages_of ready.setting)) q []
     each q h =
@@ -184,8 +207,11 @@ module _ {S R : Type 0} (meaning : S → Meaning) (told : R → ℕ) (P Q : Work
         shows.store.bytes_are q low ∙ (settle_leaves (pages_of ready.setting) ready.setting.slots ready.model ready.book ready.kept q ∙ sym (page_at ready.book (pages_of ready.setting) q low))
 
 module _ {S R : Type 0} (meaning : S → Meaning) (told : R → ℕ) (P Q : Works S R) (ready : ∥ Ready meaning told P ∥₁) (step : (s : Setting) (w : Paged) → Shows told meaning s P w → Shows told meaning s Q (paged_settle (pages_of s) w)) where
+  pub settle_goes_on : Ready meaning told P → Ready meaning told Q
+  settle_goes_on y = settle_ready meaning told P Q y (step y.setting y.model y.shows)
+
   pub settled_ready : ∥ Ready meaning told Q ∥₁
-  settled_ready = ∥∥₁_map ready (λ y. settle_ready meaning told P Q y (step y.setting y.model y.shows))
+  settled_ready = ∥∥₁_map ready settle_goes_on
 
   pub settled_keeps : book_of meaning Q ≡ book_of meaning P
   settled_keeps = ∥∥₁_elim ready (books_set _ _) (λ y. settle_keeps meaning told P Q y (step y.setting y.model y.shows))

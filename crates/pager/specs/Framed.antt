@@ -1,4 +1,4 @@
-use Rattle.std.specs.Prelude.{◌≡◌, ℕ, ◌<◌, false, cond, ◌≢◌, List, [], ◌∷◌, ◌++◌, map, length, ◌==◌, slice_index}
+use Rattle.std.specs.Prelude.{◌≡◌, ℕ, ◌<◌, Bool, false, cond, ◌≢◌, List, [], ◌∷◌, ◌++◌, map, length, ◌==◌, slice_index}
 use Rattle.links.specs.declared.Part.TheVariants.{Unused}
 use Rattle.model.specs.Order.{Rule, Order, used}
 use Rattle.model.specs.Named.{named}
@@ -29,6 +29,10 @@ replacing q p x = cond (x == q) p x
 -- A frame named after page p, which is clean.
 abbrev pub renamed : ℕ → Frame → Frame
 renamed p f = record f { page = p; dirty = false }
+
+-- A frame whose page is dirty, or clean.
+abbrev pub marked : Bool → Frame → Frame
+marked d f = record f { dirty = d }
 
 -- Frame i took its seat in a table that showed the order o: the page that it is named after was used.
 pub record Sat {X : Type 0} (told : X → ℕ) (r : Rule) (k : ℕ) (t : List Frame) (o : Order) (i : ℕ) (c' : TwoParts X) (t' : List Frame) : Type 0 where

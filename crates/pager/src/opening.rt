@@ -4,6 +4,7 @@ ghost use Rattle.pager.specs.Frames.{idle};
 ghost use Rattle.pager.specs.Openings.{may_page, RefusedFor};
 ghost use Rattle.pager.specs.Settings.{untouched};
 ghost use Rattle.pager.specs.Shows.{Shows};
+ghost use Rattle.pager.specs.Ready.{Ready};
 
 use super::frame::Frame;
 use super::frames::FrameTable;
@@ -53,6 +54,7 @@ impl<S: PageStore, R: TopRule + Drop> Pager<S, R> {
         bottom: usize,
     ) -> Result<Pager<S, R>, NotOpened<S>>
         ensures answer { MatchResult result (λ _. may_page slots bottom ≡ Ok tt) (λ e. RefusedFor e.why slots bottom × (e.below ≡ below)) }
+        ensures ready { IfOk result (λ p. Ready S.PageStore.meaning R.TopRule.told p.works) }
         ensures fresh { IfOk result (λ p. (p.works.below ≡ below) × (p.tallies ≡ record { fetches = 0; saves = 0 }) × Shows R.TopRule.told S.PageStore.meaning (record { first = S.PageStore.meaning below; slots = slots; bottom = bottom }) p.works (untouched (record { first = S.PageStore.meaning below; slots = slots; bottom = bottom }) (R.TopRule.told rule))) }
     {
         if let Err(why) = may_page(slots, bottom) {
@@ -62,6 +64,7 @@ impl<S: PageStore, R: TopRule + Drop> Pager<S, R> {
             let why = PagerRefusal::NoMemory;
             return Err(NotOpened { why, below });
         };
+        let pages = below.pages();
         let table = FrameTable {
             frames,
             parts: TwoParts::make(rule, slots),
@@ -72,6 +75,7 @@ impl<S: PageStore, R: TopRule + Drop> Pager<S, R> {
                 table,
                 counts: UseCounts::default(),
             },
+            pages,
             tallies: Tallies::default(),
         })
     }

@@ -12,7 +12,7 @@ impl<S: PageStore, R: TopRule> PageStore for Pager<S, R> {
     ghost sized = { λ p. p.sized };
 
     fn pages(&self) -> usize {
-        self.works.below.pages()
+        self.pages
     }
 
     fn tallies(&self) -> Tallies {

@@ -3,7 +3,7 @@ ghost use Rattle.std.specs.Prelude.{◌≡◌, ℕ, ◌+◌, ◌<◌, ◌≤◌,
 ghost use Rattle.model.specs.Order.{Order, rule_of, used};
 ghost use Rattle.model.specs.Sound.{Sound};
 ghost use Rattle.pager.specs.Frames.{at, page_in, taken, In, Absent};
-ghost use Rattle.pager.specs.Framed.{Framed, Alone, SameContents, renamed, Sat, Released, Left, Slotted};
+ghost use Rattle.pager.specs.Framed.{Framed, Alone, SameContents, renamed, marked, Sat, Released, Left, Slotted};
 ghost use Rattle.pager.specs.Vacant.{Vacant, Taken};
 
 use super::frames::FrameTable;
@@ -32,6 +32,16 @@ impl<R: TopRule> FrameTable<R> {
         let frame = &mut self.frames[i];
         frame.page = page;
         frame.dirty = false;
+    }
+
+    // Marks the page of a frame as dirty or clean.
+    pub(crate) fn mark(&mut self, i: usize, dirty: bool)
+        requires within { i < vec_len self.old.frames }
+        ensures wrote { self.new.frames.items ≡ slice_set self.old.frames.items i (marked dirty (at self.old.frames.items i)) }
+        ensures parts { self.new.parts ≡ self.old.parts }
+    {
+        let frame = &mut self.frames[i];
+        frame.dirty = dirty;
     }
 
     // Takes the oldest frame of the bottom out of the order.

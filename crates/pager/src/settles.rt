@@ -25,12 +25,13 @@ impl<S: PageStore, R: TopRule> Works<S, R> {
         }
     }
 
-    // Saves each dirty page below.
-    fn settle(&mut self)
-        requires { ∥ Ready S.PageStore.meaning R.TopRule.told self.old ∥₁ }
+    // Saves each dirty page below, which has so many pages.
+    fn settle(&mut self, pages: usize)
+        requires ready { ∥ Ready S.PageStore.meaning R.TopRule.told self.old ∥₁ }
+        requires counted { pages ≡ length (S.PageStore.meaning self.old.below).bytes }
         ensures { (s : Setting) (w : Paged) → Shows R.TopRule.told S.PageStore.meaning s self.old w → Shows R.TopRule.told S.PageStore.meaning s self.new (paged_settle (pages_of s) w) }
     {
-        for page in 0..self.below.pages() {
+        for page in 0..pages {
             self.settle_page(page);
         }
     }
@@ -39,11 +40,12 @@ impl<S: PageStore, R: TopRule> Works<S, R> {
 impl<S: PageStore, R: TopRule> Pager<S, R> {
     // Saves each dirty page below, in ascending order of the pages, and makes it clean. Nothing moves.
     pub fn settle(&mut self)
+        ensures ready { Ready S.PageStore.meaning R.TopRule.told self.old.works → Ready S.PageStore.meaning R.TopRule.told self.new.works }
         ensures same { pager_meaning S.PageStore.meaning self.new.works self.new.tallies ≡ pager_meaning S.PageStore.meaning self.old.works self.old.tallies }
         ensures below { (S.PageStore.meaning self.new.works.below).bytes ≡ book_of S.PageStore.meaning self.old.works }
         ensures step { (s : Setting) (w : Paged) → Shows R.TopRule.told S.PageStore.meaning s self.old.works w → Shows R.TopRule.told S.PageStore.meaning s self.new.works (paged_settle (pages_of s) w) }
     {
-        self.works.settle();
+        self.works.settle(self.pages);
     }
 }
 
@@ -54,7 +56,11 @@ impl<S: PageStore, R: TopRule + Drop> Pager<S, R> {
         ensures step { (s : Setting) (w : Paged) → Shows R.TopRule.told S.PageStore.meaning s self.works w → StoreShows s (S.PageStore.meaning result) (paged_settle (pages_of s) w) }
     {
         self.settle();
-        let Pager { works, tallies: _ } = self;
+        let Pager {
+            works,
+            pages: _,
+            tallies: _,
+        } = self;
         let Works {
             below,
             table: _,

@@ -116,12 +116,13 @@ impl<S: PageStore, R: TopRule> Works<S, R> {
 impl<S: PageStore, R: TopRule> Pager<S, R> {
     // Gives the bytes of a page into the buffer.
     pub fn read(&mut self, page: usize, buffer: &mut [u8]) -> Result<(), StoreRefusal>
+        ensures ready { Ready S.PageStore.meaning R.TopRule.told self.old.works → Ready S.PageStore.meaning R.TopRule.told self.new.works }
         ensures effect { Fetched (pager_meaning S.PageStore.meaning self.old.works self.old.tallies) page buffer.old result (pager_meaning S.PageStore.meaning self.new.works self.new.tallies) buffer.new }
         ensures refused { is_ok result ≡ false → self.new ≡ self.old }
         ensures step { (s : Setting) (w : Paged) → Shows R.TopRule.told S.PageStore.meaning s self.old.works w → is_ok result ≡ true → Shows R.TopRule.told S.PageStore.meaning s self.new.works (paged_read (rule_of R.TopRule.slot R.TopRule.next) s.slots s.bottom page w) }
         ensures bytes { (s : Setting) (w : Paged) → Shows R.TopRule.told S.PageStore.meaning s self.old.works w → is_ok result ≡ true → buffer.new ≡ given (rule_of R.TopRule.slot R.TopRule.next) s.slots s.bottom page w }
     {
-        may_use(self.works.below.pages(), page, buffer.len())?;
+        may_use(self.pages, page, buffer.len())?;
         let frame = self.works.load(page);
         self.works.table.give(frame, buffer);
         self.tallies.note_fetch();
@@ -130,11 +131,12 @@ impl<S: PageStore, R: TopRule> Pager<S, R> {
 
     // Replaces the bytes of a page by the buffer's.
     pub fn write(&mut self, page: usize, buffer: &[u8]) -> Result<(), StoreRefusal>
+        ensures ready { Ready S.PageStore.meaning R.TopRule.told self.old.works → Ready S.PageStore.meaning R.TopRule.told self.new.works }
         ensures effect { Saved (pager_meaning S.PageStore.meaning self.old.works self.old.tallies) page buffer.now result (pager_meaning S.PageStore.meaning self.new.works self.new.tallies) }
         ensures refused { is_ok result ≡ false → self.new ≡ self.old }
         ensures step { (s : Setting) (w : Paged) → Shows R.TopRule.told S.PageStore.meaning s self.old.works w → is_ok result ≡ true → Shows R.TopRule.told S.PageStore.meaning s self.new.works (paged_write (rule_of R.TopRule.slot R.TopRule.next) s.slots s.bottom page buffer.now w) }
     {
-        may_use(self.works.below.pages(), page, buffer.len())?;
+        may_use(self.pages, page, buffer.len())?;
         let frame = self.works.hold(page);
         self.works.table.take(frame, buffer);
         self.tallies.note_save();

@@ -13,8 +13,16 @@ invariant_of-result g c =
     let told = g.R.TopRule.told c.args.rule in
     let frames = fresh_frames g.R.TopRule.told told c.make.result (c.args.slots + c.args.bottom) _ c.in-Ok.ensures c.make.ensures.stands s c.make.ensures.slots refl in
     let counts : c.default.result ≡ zeros = search rules in
-    let ready = fresh_ready g.R.TopRule.told g.S.PageStore.meaning s _ told (g.met.S.PageStore.sized c.args.below) (fresh_shows g.R.TopRule.told g.S.PageStore.meaning s _ told refl counts frames) in
-    record { ready = ready; sized = pager_sized g.S.PageStore.meaning g.R.TopRule.told _ ready }
+    let ready = ∣ fresh_ready g.R.TopRule.told g.S.PageStore.meaning s _ told (g.met.S.PageStore.sized c.args.below) (fresh_shows g.R.TopRule.told g.S.PageStore.meaning s _ told refl counts frames) ∣₁ in
+    record { ready = ready; sized = pager_sized g.S.PageStore.meaning g.R.TopRule.told _ ready; counted = c.pages-pages.ensures }
+
+pub returns-clause-ready : goal.returns-clause-ready
+returns-clause-ready g c =
+    let s : Setting = record { first = g.S.PageStore.meaning c.args.below; slots = c.args.slots; bottom = c.args.bottom } in
+    let told = g.R.TopRule.told c.args.rule in
+    let frames = fresh_frames g.R.TopRule.told told c.make.result (c.args.slots + c.args.bottom) _ c.in-Ok.ensures c.make.ensures.stands s c.make.ensures.slots refl in
+    let counts : c.default.result ≡ zeros = search rules in
+    fresh_ready g.R.TopRule.told g.S.PageStore.meaning s _ told (g.met.S.PageStore.sized c.args.below) (fresh_shows g.R.TopRule.told g.S.PageStore.meaning s _ told refl counts frames)
 
 pub returns-clause-fresh : goal.returns-clause-fresh
 returns-clause-fresh g c =
