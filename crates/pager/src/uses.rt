@@ -1,7 +1,8 @@
 // The uses of a pager: reads and writes.
-ghost use Rattle.std.specs.Prelude.{◌≡◌, ℕ, ◌<◌, true, false, ◌≢◌, length, is_ok};
+ghost use Rattle.std.specs.Prelude.{◌≡◌, ℕ, ◌<◌, true, false, not, ◌≢◌, length, is_ok};
 ghost use Rattle.store.specs.Uses.{Fetched, Saved};
 ghost use Rattle.model.specs.Order.{rule_of};
+ghost use Rattle.model.specs.Pager.{holds};
 ghost use Rattle.model.specs.Bytes.{Paged, paged_read, paged_write, given};
 ghost use Rattle.pager.specs.Frames.{at, page_in, contents, taken, In, Absent, flushed};
 ghost use Rattle.pager.specs.Counted.{driven_out};
@@ -18,6 +19,13 @@ use super::state::Pager;
 use super::works::Works;
 use rules::TopRule;
 use store::{PageStore, StoreRefusal, may_use};
+
+// The frame of a page, and whether the page had none before.
+#[derive(Clone, Copy)]
+struct Held {
+    frame: usize,
+    new: bool,
+}
 
 impl<S: PageStore, R: TopRule> Works<S, R> {
     // A use of the page that frame `i` holds.
@@ -76,40 +84,37 @@ impl<S: PageStore, R: TopRule> Works<S, R> {
     }
 
     // A use of a page before its bytes move: it has a frame in the top then.
-    fn hold(&mut self, page: usize) -> usize
+    fn hold(&mut self, page: usize) -> Held
         requires ready { ∥ Ready S.PageStore.meaning R.TopRule.told self.old ∥₁ }
         requires low { page < length (S.PageStore.meaning self.old.below).bytes }
-        ensures shows { (s : Setting) (w : Paged) → Shows R.TopRule.told S.PageStore.meaning s self.old w → Shows R.TopRule.told S.PageStore.meaning s self.new (touched (rule_of R.TopRule.slot R.TopRule.next) s.slots s.bottom page (at (frames_of self.new) result).bytes w) }
-        ensures here { In (frames_of self.new) page result }
+        ensures shows { (s : Setting) (w : Paged) → Shows R.TopRule.told S.PageStore.meaning s self.old w → Shows R.TopRule.told S.PageStore.meaning s self.new (touched (rule_of R.TopRule.slot R.TopRule.next) s.slots s.bottom page (at (frames_of self.new) result.frame).bytes w) }
+        ensures found { (s : Setting) (w : Paged) → Shows R.TopRule.told S.PageStore.meaning s self.old w → holds page w.pager.order ≡ not result.new }
+        ensures here { In (frames_of self.new) page result.frame }
     {
         match frame_of(&self.table.frames, page) {
             Some(frame) => {
                 self.touch(frame);
-                frame
+                Held { frame, new: false }
             }
-            None => self.admit(page),
+            None => {
+                let frame = self.admit(page);
+                Held { frame, new: true }
+            }
         }
     }
 
-    // A read of a page before the caller gets its bytes: they are in its frame. Not by way of `hold`, which would have to tell
-    // whether the page had a frame before, so that one that had none is fetched.
+    // A read of a page before the caller gets its bytes: they are in its frame.
     fn load(&mut self, page: usize) -> usize
         requires ready { ∥ Ready S.PageStore.meaning R.TopRule.told self.old ∥₁ }
         requires low { page < length (S.PageStore.meaning self.old.below).bytes }
         ensures shows { (s : Setting) (w : Paged) → Shows R.TopRule.told S.PageStore.meaning s self.old w → Shows R.TopRule.told S.PageStore.meaning s self.new (paged_read (rule_of R.TopRule.slot R.TopRule.next) s.slots s.bottom page w) }
         ensures here { In (frames_of self.new) page result }
     {
-        match frame_of(&self.table.frames, page) {
-            Some(held) => {
-                self.touch(held);
-                held
-            }
-            None => {
-                let frame = self.admit(page);
-                self.table.fetch(frame, &mut self.below);
-                frame
-            }
+        let held = self.hold(page);
+        if held.new {
+            self.table.fetch(held.frame, &mut self.below);
         }
+        held.frame
     }
 }
 
@@ -137,8 +142,8 @@ impl<S: PageStore, R: TopRule> Pager<S, R> {
         ensures step { (s : Setting) (w : Paged) → Shows R.TopRule.told S.PageStore.meaning s self.old.works w → is_ok result ≡ true → Shows R.TopRule.told S.PageStore.meaning s self.new.works (paged_write (rule_of R.TopRule.slot R.TopRule.next) s.slots s.bottom page buffer.now w) }
     {
         may_use(self.pages, page, buffer.len())?;
-        let frame = self.works.hold(page);
-        self.works.table.take(frame, buffer);
+        let held = self.works.hold(page);
+        self.works.table.take(held.frame, buffer);
         self.tallies.note_save();
         Ok(())
     }

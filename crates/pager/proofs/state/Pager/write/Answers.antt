@@ -20,11 +20,11 @@ returns-in_err-may_use-clause-effect g c =
 pub invariant_of-self : goal.invariant_of-self
 invariant_of-self g c =
     let p = c.args.self.now in
-    let q = c.hold-frame.new.self in
+    let q = c.hold-held.new.self in
     let z : Works g.row.S.Denot g.row.R.Denot = record { below = q.below; table = c.take.new.self; counts = q.counts } in
     let rule = rule_of g.R.TopRule.slot g.R.TopRule.next in
     let ok = rw c.args.self.now.counted at c.in_ok-may_use.ensures in
-    let shows = write_after g.R.TopRule.told g.S.PageStore.meaning rule p.works q z c.args.page c.hold-frame.result c.hold-frame.ensures.shows c.hold-frame.ensures.here (apart_in q.table.parts (frames_of q) q.table.seated) (accepted_page _ _ _ ok) c.args.buffer.now c.take.ensures.parts refl refl c.take.ensures.wrote in
+    let shows = write_after g.R.TopRule.told g.S.PageStore.meaning rule p.works q z c.args.page c.hold-held.result.frame c.hold-held.ensures.shows c.hold-held.ensures.here (apart_in q.table.parts (frames_of q) q.table.seated) (accepted_page _ _ _ ok) c.args.buffer.now c.take.ensures.parts refl refl c.take.ensures.wrote in
     let ready = write_stays g.S.PageStore.meaning g.R.TopRule.told p.works p.ready p.tallies c.args.page c.args.buffer.now z rule (λ state k pos. g.met.R.TopRule.below state k pos) ok shows in
     record {
       ready = ready;
@@ -35,29 +35,29 @@ invariant_of-self g c =
 pub returns-clause-effect : goal.returns-clause-effect
 returns-clause-effect g c =
     let p = c.args.self.now in
-    let q = c.hold-frame.new.self in
+    let q = c.hold-held.new.self in
     let z : Works g.row.S.Denot g.row.R.Denot = record { below = q.below; table = c.take.new.self; counts = q.counts } in
     let rule = rule_of g.R.TopRule.slot g.R.TopRule.next in
     let ok = rw c.args.self.now.counted at c.in_ok-may_use.ensures in
-    let shows = write_after g.R.TopRule.told g.S.PageStore.meaning rule p.works q z c.args.page c.hold-frame.result c.hold-frame.ensures.shows c.hold-frame.ensures.here (apart_in q.table.parts (frames_of q) q.table.seated) (accepted_page _ _ _ ok) c.args.buffer.now c.take.ensures.parts refl refl c.take.ensures.wrote in
+    let shows = write_after g.R.TopRule.told g.S.PageStore.meaning rule p.works q z c.args.page c.hold-held.result.frame c.hold-held.ensures.shows c.hold-held.ensures.here (apart_in q.table.parts (frames_of q) q.table.seated) (accepted_page _ _ _ ok) c.args.buffer.now c.take.ensures.parts refl refl c.take.ensures.wrote in
     rw c.note_save.ensures (write_effect g.S.PageStore.meaning g.R.TopRule.told p.works p.ready p.tallies c.args.page c.args.buffer.now z rule (λ state k pos. g.met.R.TopRule.below state k pos) ok shows)
 
 pub returns-clause-step : goal.returns-clause-step
 returns-clause-step g c =
     let p = c.args.self.now in
-    let q = c.hold-frame.new.self in
+    let q = c.hold-held.new.self in
     let z : Works g.row.S.Denot g.row.R.Denot = record { below = q.below; table = c.take.new.self; counts = q.counts } in
     let rule = rule_of g.R.TopRule.slot g.R.TopRule.next in
     let ok = rw c.args.self.now.counted at c.in_ok-may_use.ensures in
-    let shows = write_after g.R.TopRule.told g.S.PageStore.meaning rule p.works q z c.args.page c.hold-frame.result c.hold-frame.ensures.shows c.hold-frame.ensures.here (apart_in q.table.parts (frames_of q) q.table.seated) (accepted_page _ _ _ ok) c.args.buffer.now c.take.ensures.parts refl refl c.take.ensures.wrote in
+    let shows = write_after g.R.TopRule.told g.S.PageStore.meaning rule p.works q z c.args.page c.hold-held.result.frame c.hold-held.ensures.shows c.hold-held.ensures.here (apart_in q.table.parts (frames_of q) q.table.seated) (accepted_page _ _ _ ok) c.args.buffer.now c.take.ensures.parts refl refl c.take.ensures.wrote in
     λ s w sh h. shows s w sh
 
 pub returns-clause-ready : goal.returns-clause-ready
 returns-clause-ready g c =
     let p = c.args.self.now in
-    let q = c.hold-frame.new.self in
+    let q = c.hold-held.new.self in
     let z : Works g.row.S.Denot g.row.R.Denot = record { below = q.below; table = c.take.new.self; counts = q.counts } in
     let rule = rule_of g.R.TopRule.slot g.R.TopRule.next in
     let ok = rw c.args.self.now.counted at c.in_ok-may_use.ensures in
-    let shows = write_after g.R.TopRule.told g.S.PageStore.meaning rule p.works q z c.args.page c.hold-frame.result c.hold-frame.ensures.shows c.hold-frame.ensures.here (apart_in q.table.parts (frames_of q) q.table.seated) (accepted_page _ _ _ ok) c.args.buffer.now c.take.ensures.parts refl refl c.take.ensures.wrote in
+    let shows = write_after g.R.TopRule.told g.S.PageStore.meaning rule p.works q z c.args.page c.hold-held.result.frame c.hold-held.ensures.shows c.hold-held.ensures.here (apart_in q.table.parts (frames_of q) q.table.seated) (accepted_page _ _ _ ok) c.args.buffer.now c.take.ensures.parts refl refl c.take.ensures.wrote in
     write_goes_on g.S.PageStore.meaning g.R.TopRule.told p.works p.ready p.tallies c.args.page c.args.buffer.now z rule (λ state k pos. g.met.R.TopRule.below state k pos) ok shows
