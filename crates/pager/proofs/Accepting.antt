@@ -1,5 +1,5 @@
 -- A pager as a store: what an accepted and a refused call do to its meaning.
-use mathlib.Core.Logic.{∥∥₁_elim, ∥∥₁_map}
+use mathlib.Core.Logic.{∥∥₁_elim}
 use Rattle.std.proofs.Common.{◌≡◌, ℕ, ◌<◌, List, [], length, get_or, set, Ok, Err, sym, refl, ap, ◌∙◌, inl, inr, arith}
 use Rattle.std.proofs.lemmas.List.FromFn.{length-map-range_with_len}
 use Rattle.lists.proofs.Weights.{eqb_cases}
@@ -14,12 +14,14 @@ use Rattle.model.specs.Order.{Rule}
 use Rattle.model.specs.Bytes.{Paged, paged_read, paged_write, writes, book_step}
 use Rattle.model.proofs.Bytes.{kept_read, kept_write}
 use Rattle.pager.specs.declared.works.Works.{Works}
+use Rattle.pager.specs.declared.state.Pager.{Pager}
 use Rattle.std.proofs.Props.{props}
 use Rattle.pager.specs.declared.frame.Frame.{Frame}
 use Rattle.pager.specs.Frames.{at, In}
 use Rattle.pager.specs.Settings.{Setting, pages_of}
 use Rattle.pager.specs.Shows.{frames_of, Shows}
 use Rattle.pager.specs.Book.{bytes_of, book_of, pager_meaning}
+use Rattle.pager.specs.Booked.{Booked}
 use Rattle.pager.specs.Ready.{Ready}
 use Rattle.pager.proofs.Holders.{in_order}
 use Rattle.pager.proofs.Touching.{rule_below}
@@ -48,68 +50,68 @@ in_prop t q i = hlevel props
 pub count_is : {S R : Type 0} (meaning : S → Meaning) (P : Works S R) → length (book_of meaning P) ≡ length (meaning P.below).bytes
 count_is meaning P = length-map-range_with_len (λ q. bytes_of (frames_of P) q (get_or (meaning P.below).bytes q [])) 0 (length (meaning P.below).bytes)
 
-module _ {S R : Type 0} (meaning : S → Meaning) (told : R → ℕ) (P : Works S R) (ready : Ready meaning told P) where
-  pub bytes_are : book_of meaning P ≡ pages_by ready.book (pages_of ready.setting)
-  bytes_are = book_is told meaning ready.setting P ready.model ready.book ready.shows ready.kept
+module _ {S R : Type 0} (meaning : S → Meaning) (told : R → ℕ) (P : Works S R) (booked : Booked meaning told P) where
+  pub bytes_are : book_of meaning P ≡ pages_by booked.book (pages_of booked.setting)
+  bytes_are = book_is told meaning booked.setting P booked.model booked.book booked.shows booked.kept
 
   sized_ready : Sized (book_of meaning P)
   sized_ready = record {
-    some = omega (arith, count_is meaning P, ready.shows.store.pages_are, ready.sized.some);
-    few = omega (arith, count_is meaning P, ready.shows.store.pages_are, ready.sized.few);
-    even = λ q h. let low : q < pages_of ready.setting = omega (arith, count_is meaning P, ready.shows.store.pages_are) in ap (λ xs. length (get_or xs q [])) bytes_are ∙ (ap length (page_at ready.book (pages_of ready.setting) q low) ∙ ready.long q low);
+    some = omega (arith, count_is meaning P, booked.shows.store.pages_are, booked.sized.some);
+    few = omega (arith, count_is meaning P, booked.shows.store.pages_are, booked.sized.few);
+    even = λ q h. let low : q < pages_of booked.setting = omega (arith, count_is meaning P, booked.shows.store.pages_are) in ap (λ xs. length (get_or xs q [])) bytes_are ∙ (ap length (page_at booked.book (pages_of booked.setting) q low) ∙ booked.long q low);
   }
 
   -- A call that is accepted, and the pager Q then.
-  module _ (page : ℕ) (low : page < pages_of ready.setting) (Q : Works S R) (r : Rule) (slots : (state : ℕ) → r.slot state ready.setting.slots < ready.setting.slots) where
-    module _ (shows : Shows told meaning ready.setting Q (paged_read r ready.setting.slots ready.setting.bottom page ready.model)) where
-      pub read_ready : Ready meaning told Q
+  module _ (page : ℕ) (low : page < pages_of booked.setting) (Q : Works S R) (r : Rule) (slots : (state : ℕ) → r.slot state booked.setting.slots < booked.setting.slots) where
+    module _ (shows : Shows told meaning booked.setting Q (paged_read r booked.setting.slots booked.setting.bottom page booked.model)) where
+      pub read_ready : Booked meaning told Q
       read_ready = record {
-        setting = ready.setting;
-        model = paged_read r ready.setting.slots ready.setting.bottom page ready.model;
-        book = ready.book;
-        sized = ready.sized;
+        setting = booked.setting;
+        model = paged_read r booked.setting.slots booked.setting.bottom page booked.model;
+        book = booked.book;
+        sized = booked.sized;
         shows = shows;
-        kept = kept_read r (pages_of ready.setting) ready.setting.slots ready.setting.bottom page slots low ready.model ready.book ready.kept;
-        long = ready.long;
+        kept = kept_read r (pages_of booked.setting) booked.setting.slots booked.setting.bottom page slots low booked.model booked.book booked.kept;
+        long = booked.long;
       }
 
       read_keeps : book_of meaning Q ≡ book_of meaning P
       unfolding read_ready
-      read_keeps = book_is told meaning ready.setting Q read_ready.model ready.book shows read_ready.kept ∙ sym bytes_are
+      read_keeps = book_is told meaning booked.setting Q read_ready.model booked.book shows read_ready.kept ∙ sym bytes_are
 
       read_gives : (i : ℕ) → In (frames_of Q) page i → (at (frames_of Q) i).bytes ≡ get_or (book_of meaning P) page []
       unfolding read_ready
       read_gives i here = shows.frames.bytes_are page i here ∙ (read_ready.kept.framed page (in_order told Q.table.parts (frames_of Q) read_ready.model.pager.order shows.frames.order_is page i here)
-          ∙ (sym (page_at ready.book (pages_of ready.setting) page low) ∙ sym (ap (λ xs. get_or xs page []) bytes_are)))
+          ∙ (sym (page_at booked.book (pages_of booked.setting) page low) ∙ sym (ap (λ xs. get_or xs page []) bytes_are)))
 
-    module _ (b : List ℕ) (long : length b ≡ 64) (shows : Shows told meaning ready.setting Q (paged_write r ready.setting.slots ready.setting.bottom page b ready.model)) where
-      pub write_ready : Ready meaning told Q
+    module _ (b : List ℕ) (long : length b ≡ 64) (shows : Shows told meaning booked.setting Q (paged_write r booked.setting.slots booked.setting.bottom page b booked.model)) where
+      pub write_ready : Booked meaning told Q
       write_ready = record {
-        setting = ready.setting;
-        model = paged_write r ready.setting.slots ready.setting.bottom page b ready.model;
-        book = book_step ready.book (writes page b);
-        sized = ready.sized;
+        setting = booked.setting;
+        model = paged_write r booked.setting.slots booked.setting.bottom page b booked.model;
+        book = book_step booked.book (writes page b);
+        sized = booked.sized;
         shows = shows;
-        kept = kept_write r (pages_of ready.setting) ready.setting.slots ready.setting.bottom page slots low ready.model ready.book ready.kept b;
+        kept = kept_write r (pages_of booked.setting) booked.setting.slots booked.setting.bottom page slots low booked.model booked.book booked.kept b;
         long = λ q h. elim (eqb_cases q page) [
           | inl e ↦ rw e.1 long
-          | inr n ↦ rw n.1 (ready.long q h)
+          | inr n ↦ rw n.1 (booked.long q h)
         ];
       }
 
       write_keeps : book_of meaning Q ≡ set (book_of meaning P) page b
       unfolding write_ready
-      write_keeps = book_is told meaning ready.setting Q write_ready.model (book_step ready.book (writes page b)) shows write_ready.kept ∙ (book_write ready.book (pages_of ready.setting) page b ∙ ap (λ xs. set xs page b) (sym bytes_are))
+      write_keeps = book_is told meaning booked.setting Q write_ready.model (book_step booked.book (writes page b)) shows write_ready.kept ∙ (book_write booked.book (pages_of booked.setting) page b ∙ ap (λ xs. set xs page b) (sym bytes_are))
 
 -- A step that goes along with the model leaves the store below as many pages.
-pub pages_stay : {S R : Type 0} (meaning : S → Meaning) (told : R → ℕ) (P Q : Works S R) → ∥ Ready meaning told P ∥₁ → (f : Setting → Paged → Paged) →
+pub pages_stay : {S R : Type 0} (meaning : S → Meaning) (told : R → ℕ) (P Q : Works S R) → ∥ Booked meaning told P ∥₁ → (f : Setting → Paged → Paged) →
     ((s : Setting) (w : Paged) → Shows told meaning s P w → Shows told meaning s Q (f s w)) → length (meaning P.below).bytes ≡ length (meaning Q.below).bytes
-pages_stay meaning told P Q ready f step = ∥∥₁_elim ready (counts_set _ _) (λ y. y.shows.store.pages_are ∙ sym (step y.setting y.model y.shows).store.pages_are)
+pages_stay meaning told P Q booked f step = ∥∥₁_elim booked (counts_set _ _) (λ y. y.shows.store.pages_are ∙ sym (step y.setting y.model y.shows).store.pages_are)
 
--- The same of a pager that is ready.
-module _ {S R : Type 0} (meaning : S → Meaning) (told : R → ℕ) (P : Works S R) (ready : ∥ Ready meaning told P ∥₁) where
+-- The same of works of which it is known only that they are booked.
+module _ {S R : Type 0} (meaning : S → Meaning) (told : R → ℕ) (P : Works S R) (booked : ∥ Booked meaning told P ∥₁) where
   pub pager_sized : Sized (book_of meaning P)
-  pager_sized = ∥∥₁_elim ready (sized_prop _) (λ y. sized_ready meaning told P y)
+  pager_sized = ∥∥₁_elim booked (sized_prop _) (λ y. sized_ready meaning told P y)
 
   module _ (t : Tallies) (page : ℕ) (b : List ℕ) where
     pub refused_read : (e : StoreRefusal) → Err e ≡ may_use (length (meaning P.below).bytes) page (length b) → Fetched (pager_meaning meaning P t) page b (Err e) (pager_meaning meaning P t) b
@@ -123,25 +125,22 @@ module _ {S R : Type 0} (meaning : S → Meaning) (told : R → ℕ) (P : Works 
       answer : Ok tt ≡ may_use (length (book_of meaning P)) page (length b)
       answer = ok ∙ ap (λ n. may_use n page (length b)) (sym (count_is meaning P))
 
-      low : (y : Ready meaning told P) → page < pages_of y.setting
+      low : (y : Booked meaning told P) → page < pages_of y.setting
       low y = omega (arith, accepted_page (length (meaning P.below).bytes) page (length b) ok, y.shows.store.pages_are)
 
-      slots : (y : Ready meaning told P) (state : ℕ) → r.slot state y.setting.slots < y.setting.slots
+      slots : (y : Booked meaning told P) (state : ℕ) → r.slot state y.setting.slots < y.setting.slots
       slots y = rule_below told r y.setting P.table.parts (frames_of P) y.model y.shows.frames below
 
       module _ (shows : (s : Setting) (w : Paged) → Shows told meaning s P w → Shows told meaning s Q (paged_read r s.slots s.bottom page w)) where
-        pub read_goes_on : Ready meaning told P → Ready meaning told Q
+        pub read_goes_on : Booked meaning told P → Booked meaning told Q
         read_goes_on y = read_ready meaning told P y page (low y) Q r (slots y) (shows y.setting y.model y.shows)
-
-        pub read_stays : ∥ Ready meaning told Q ∥₁
-        read_stays = ∥∥₁_map ready read_goes_on
 
         pub read_effect : (i : ℕ) (b2 : List ℕ) → In (frames_of Q) page i → b2 ≡ (at (frames_of Q) i).bytes → Fetched (pager_meaning meaning P t) page b (Ok tt) (pager_meaning meaning Q (one_fetch t)) b2
         read_effect i b2 here is = record {
           answered = answer;
           effect = (
-            ap (λ xs. record { bytes = xs; tallies = one_fetch t }) (∥∥₁_elim ready (books_set _ _) (λ y. read_keeps meaning told P y page (low y) Q r (slots y) (shows y.setting y.model y.shows))),
-            is ∙ ∥∥₁_elim ready (bytes_set _ _) (λ y. read_gives meaning told P y page (low y) Q r (slots y) (shows y.setting y.model y.shows) i here),
+            ap (λ xs. record { bytes = xs; tallies = one_fetch t }) (∥∥₁_elim booked (books_set _ _) (λ y. read_keeps meaning told P y page (low y) Q r (slots y) (shows y.setting y.model y.shows))),
+            is ∙ ∥∥₁_elim booked (bytes_set _ _) (λ y. read_gives meaning told P y page (low y) Q r (slots y) (shows y.setting y.model y.shows) i here),
           );
         }
 
@@ -149,14 +148,15 @@ module _ {S R : Type 0} (meaning : S → Meaning) (told : R → ℕ) (P : Works 
         long : length b ≡ 64
         long = accepted_length (length (meaning P.below).bytes) page (length b) ok
 
-        pub write_goes_on : Ready meaning told P → Ready meaning told Q
+        pub write_goes_on : Booked meaning told P → Booked meaning told Q
         write_goes_on y = write_ready meaning told P y page (low y) Q r (slots y) b long (shows y.setting y.model y.shows)
-
-        pub write_stays : ∥ Ready meaning told Q ∥₁
-        write_stays = ∥∥₁_map ready write_goes_on
 
         pub write_effect : Saved (pager_meaning meaning P t) page b (Ok tt) (pager_meaning meaning Q (one_save t))
         write_effect = record {
           answered = answer;
-          effect = ap (λ xs. record { bytes = xs; tallies = one_save t }) (∥∥₁_elim ready (books_set _ _) (λ y. write_keeps meaning told P y page (low y) Q r (slots y) b long (shows y.setting y.model y.shows)));
+          effect = ap (λ xs. record { bytes = xs; tallies = one_save t }) (∥∥₁_elim booked (books_set _ _) (λ y. write_keeps meaning told P y page (low y) Q r (slots y) b long (shows y.setting y.model y.shows)));
         }
+
+-- A pager over an open store is ready where its works are booked and it keeps the count of the pages below.
+pub ready_of : {S R : Type 0} (opened : S → Type 0) (meaning : S → Meaning) (told : R → ℕ) (P : Pager S R) → opened P.works.below → Booked meaning told P.works → P.pages ≡ length (meaning P.works.below).bytes → Ready opened meaning told P
+ready_of opened meaning told P store booked counted = record { store = store; booked = booked; sized = pager_sized meaning told P.works ∣ booked ∣₁; counted = counted }

@@ -17,7 +17,7 @@ use Rattle.pager.specs.Seats.{Seated}
 use Rattle.pager.specs.Settings.{Setting, pages_of, first_bytes, untouched}
 use Rattle.pager.specs.declared.works.UseCounts.{UseCounts}
 use Rattle.pager.specs.declared.works.Works.{Works}
-use Rattle.pager.specs.Ready.{Ready}
+use Rattle.pager.specs.Booked.{Booked}
 use Rattle.pager.specs.Shows.{frames_of, FramesShow, Shows}
 
 -- Frames that were just laid out, under parts that were just made.
@@ -61,8 +61,8 @@ fresh_shows told meaning s p state first counts frames = record {
   counts = rw counts (record { hits_are = refl; reclaims_are = refl; faults_are = refl; evictions_are = refl });
 }
 
--- It is ready.
-pub fresh_ready : {S R : Type 0} (told : R → ℕ) (meaning : S → Meaning) (s : Setting) (p : Works S R) (state : ℕ) → Sized s.first.bytes → Shows told meaning s p (untouched s state) → Ready meaning told p
+-- Its works are booked.
+pub fresh_ready : {S R : Type 0} (told : R → ℕ) (meaning : S → Meaning) (s : Setting) (p : Works S R) (state : ℕ) → Sized s.first.bytes → Shows told meaning s p (untouched s state) → Booked meaning told p
 fresh_ready told meaning s p state sized shows = record {
   setting = s;
   model = untouched s state;

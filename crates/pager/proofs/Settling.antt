@@ -1,5 +1,5 @@
 -- A pager in the course of a settle.
-use mathlib.Core.Logic.{∥∥₁_elim, ∥∥₁_map}
+use mathlib.Core.Logic.{∥∥₁_elim}
 use Rattle.std.specs.Coded.{le_prop}
 use Rattle.std.proofs.Common.{◌≡◌, ℕ, ◌+◌, ◌<◌, true, false, cond, ltb, ◌≢◌, [], length, get_or, set, sym, refl, ap, ◌∙◌, subst, inl, inr, add-one, arith}
 use Rattle.std.proofs.lemmas.List.{ext_get_or, length-set, get_or-set_same, get_or-set_other}
@@ -15,7 +15,7 @@ use Rattle.pager.specs.Frames.{at, page_in, cleaned, flushed, In, Absent, Apart}
 use Rattle.pager.specs.Settings.{Setting, pages_of}
 use Rattle.pager.specs.Shows.{frames_of, StoreShows, CountsShow, Shows}
 use Rattle.pager.specs.Book.{book_of}
-use Rattle.pager.specs.Ready.{Ready}
+use Rattle.pager.specs.Booked.{Booked}
 use Rattle.pager.specs.Partly.{partly}
 use Rattle.pager.specs.Settling.{Settling}
 use Rattle.pager.proofs.Holders.{in_order}
@@ -29,8 +29,8 @@ pub frames_low : {S R : Type 0} (told : R → ℕ) (meaning : S → Meaning) (s 
 frames_low told meaning s P w sh q i h =
     omega (arith, sh.store.pages_are, framed_low (pages_of s) s.slots q w.pager.order sh.frames.sound (in_order told P.table.parts (frames_of P) w.pager.order sh.frames.order_is q i h))
 
-pub low_ready : {S R : Type 0} (meaning : S → Meaning) (told : R → ℕ) (P : Works S R) → ∥ Ready meaning told P ∥₁ → (q i : ℕ) → In (frames_of P) q i → q < length (meaning P.below).bytes
-low_ready meaning told P ready q i h = ∥∥₁_elim ready le_prop (λ y. frames_low told meaning y.setting P y.model y.shows q i h)
+pub low_ready : {S R : Type 0} (meaning : S → Meaning) (told : R → ℕ) (P : Works S R) → ∥ Booked meaning told P ∥₁ → (q i : ℕ) → In (frames_of P) q i → q < length (meaning P.below).bytes
+low_ready meaning told P booked q i h = ∥∥₁_elim booked le_prop (λ y. frames_low told meaning y.setting P y.model y.shows q i h)
 
 -- The turn of page m.
 module _ (m : ℕ) where
@@ -181,44 +181,41 @@ pub partly_end : {S R : Type 0} (meaning : S → Meaning) (told : R → ℕ) (P 
 partly_end meaning told P Q m inv over s w sh = partly_all told meaning s Q w (subst (λ n. Shows told meaning s Q (partly n w)) (over ∙ sh.store.pages_are) (inv.shows s w sh))
 
 -- A settled pager.
-module _ {S R : Type 0} (meaning : S → Meaning) (told : R → ℕ) (P Q : Works S R) (ready : Ready meaning told P) (shows : Shows told meaning ready.setting Q (paged_settle (pages_of ready.setting) ready.model)) where
-  kept' : Kept (pages_of ready.setting) ready.setting.slots (paged_settle (pages_of ready.setting) ready.model) ready.book
-  kept' = kept_settle (pages_of ready.setting) ready.setting.slots ready.model ready.book ready.kept
+module _ {S R : Type 0} (meaning : S → Meaning) (told : R → ℕ) (P Q : Works S R) (booked : Booked meaning told P) (shows : Shows told meaning booked.setting Q (paged_settle (pages_of booked.setting) booked.model)) where
+  kept' : Kept (pages_of booked.setting) booked.setting.slots (paged_settle (pages_of booked.setting) booked.model) booked.book
+  kept' = kept_settle (pages_of booked.setting) booked.setting.slots booked.model booked.book booked.kept
 
-  pub settle_ready : Ready meaning told Q
+  pub settle_ready : Booked meaning told Q
   settle_ready = record {
-    setting = ready.setting;
-    model = paged_settle (pages_of ready.setting) ready.model;
-    book = ready.book;
-    sized = ready.sized;
+    setting = booked.setting;
+    model = paged_settle (pages_of booked.setting) booked.model;
+    book = booked.book;
+    sized = booked.sized;
     shows = shows;
     kept = kept';
-    long = ready.long;
+    long = booked.long;
   }
 
   settle_keeps : book_of meaning Q ≡ book_of meaning P
-  settle_keeps = book_is told meaning ready.setting Q (paged_settle (pages_of ready.setting) ready.model) ready.book shows kept' ∙ sym (bytes_are meaning told P ready)
+  settle_keeps = book_is told meaning booked.setting Q (paged_settle (pages_of booked.setting) booked.model) booked.book shows kept' ∙ sym (bytes_are meaning told P booked)
 
   pub settle_below : (meaning Q.below).bytes ≡ book_of meaning P
-  settle_below = ext_get_or [] _ _ (shows.store.pages_are ∙ sym (pages_length ready.book (pages_of ready.setting))) each ∙ sym (bytes_are meaning told P ready) where
-    each : (q : ℕ) → q < length (meaning Q.below).bytes → get_or (meaning Q.below).bytes q [] ≡ get_or (pages_by ready.book (pages_of ready.setting)) q []
+  settle_below = ext_get_or [] _ _ (shows.store.pages_are ∙ sym (pages_length booked.book (pages_of booked.setting))) each ∙ sym (bytes_are meaning told P booked) where
+    each : (q : ℕ) → q < length (meaning Q.below).bytes → get_or (meaning Q.below).bytes q [] ≡ get_or (pages_by booked.book (pages_of booked.setting)) q []
     each q h =
-        let low : q < pages_of ready.setting = omega (arith, shows.store.pages_are) in
-        shows.store.bytes_are q low ∙ (settle_leaves (pages_of ready.setting) ready.setting.slots ready.model ready.book ready.kept q ∙ sym (page_at ready.book (pages_of ready.setting) q low))
+        let low : q < pages_of booked.setting = omega (arith, shows.store.pages_are) in
+        shows.store.bytes_are q low ∙ (settle_leaves (pages_of booked.setting) booked.setting.slots booked.model booked.book booked.kept q ∙ sym (page_at booked.book (pages_of booked.setting) q low))
 
-module _ {S R : Type 0} (meaning : S → Meaning) (told : R → ℕ) (P Q : Works S R) (ready : ∥ Ready meaning told P ∥₁) (step : (s : Setting) (w : Paged) → Shows told meaning s P w → Shows told meaning s Q (paged_settle (pages_of s) w)) where
-  pub settle_goes_on : Ready meaning told P → Ready meaning told Q
+module _ {S R : Type 0} (meaning : S → Meaning) (told : R → ℕ) (P Q : Works S R) (booked : ∥ Booked meaning told P ∥₁) (step : (s : Setting) (w : Paged) → Shows told meaning s P w → Shows told meaning s Q (paged_settle (pages_of s) w)) where
+  pub settle_goes_on : Booked meaning told P → Booked meaning told Q
   settle_goes_on y = settle_ready meaning told P Q y (step y.setting y.model y.shows)
 
-  pub settled_ready : ∥ Ready meaning told Q ∥₁
-  settled_ready = ∥∥₁_map ready settle_goes_on
-
   pub settled_keeps : book_of meaning Q ≡ book_of meaning P
-  settled_keeps = ∥∥₁_elim ready (books_set _ _) (λ y. settle_keeps meaning told P Q y (step y.setting y.model y.shows))
+  settled_keeps = ∥∥₁_elim booked (books_set _ _) (λ y. settle_keeps meaning told P Q y (step y.setting y.model y.shows))
 
   pub settled_below : (meaning Q.below).bytes ≡ book_of meaning P
-  settled_below = ∥∥₁_elim ready (books_set _ _) (λ y. settle_below meaning told P Q y (step y.setting y.model y.shows))
+  settled_below = ∥∥₁_elim booked (books_set _ _) (λ y. settle_below meaning told P Q y (step y.setting y.model y.shows))
 
 -- A page of a frame is a page of the store below in the course of a settle too.
-pub low_of : {S R : Type 0} (meaning : S → Meaning) (told : R → ℕ) (P Q : Works S R) (m : ℕ) → ∥ Ready meaning told P ∥₁ → Settling meaning told P Q m → (q i : ℕ) → In (frames_of Q) q i → q < length (meaning Q.below).bytes
-low_of meaning told P Q m ready inv q i h = ∥∥₁_elim ready le_prop (λ y. frames_low told meaning y.setting Q (partly m y.model) (inv.shows y.setting y.model y.shows) q i h)
+pub low_of : {S R : Type 0} (meaning : S → Meaning) (told : R → ℕ) (P Q : Works S R) (m : ℕ) → ∥ Booked meaning told P ∥₁ → Settling meaning told P Q m → (q i : ℕ) → In (frames_of Q) q i → q < length (meaning Q.below).bytes
+low_of meaning told P Q m booked inv q i h = ∥∥₁_elim booked le_prop (λ y. frames_low told meaning y.setting Q (partly m y.model) (inv.shows y.setting y.model y.shows) q i h)

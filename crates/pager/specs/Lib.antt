@@ -7,6 +7,7 @@ pub mod Settings
 pub mod Shows
 pub mod Where
 pub mod Book
+pub mod Booked
 pub mod Ready
 pub mod Touched
 pub mod Counted

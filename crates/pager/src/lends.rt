@@ -10,7 +10,9 @@ impl<R> FrameTable<R> {
     // Saves the page of frame `i` below if it is dirty. It is clean then.
     pub(crate) fn save<S: PageStore>(&mut self, i: usize, below: &mut S)
         requires within { i < vec_len self.old.frames }
+        requires opened { S.PageStore.opened below.old }
         requires there { page_in self.old.frames.items i < length (S.PageStore.meaning below.old).bytes }
+        ensures opened { S.PageStore.opened below.new }
         ensures below { S.PageStore.meaning below.new ≡ flushed (at self.old.frames.items i) (S.PageStore.meaning below.old) }
         ensures wrote { self.new.frames.items ≡ slice_set self.old.frames.items i (cleaned (at self.old.frames.items i)) }
         ensures parts { self.new.parts ≡ self.old.parts }
@@ -21,7 +23,9 @@ impl<R> FrameTable<R> {
     // Fetches the bytes of the page of frame `i` from below.
     pub(crate) fn fetch<S: PageStore>(&mut self, i: usize, below: &mut S)
         requires within { i < vec_len self.old.frames }
+        requires opened { S.PageStore.opened below.old }
         requires there { page_in self.old.frames.items i < length (S.PageStore.meaning below.old).bytes }
+        ensures opened { S.PageStore.opened below.new }
         ensures below { S.PageStore.meaning below.new ≡ fetched (S.PageStore.meaning below.old) }
         ensures wrote { self.new.frames.items ≡ slice_set self.old.frames.items i (filled (slice_index_or (S.PageStore.meaning below.old).bytes (page_in self.old.frames.items i) []) (at self.old.frames.items i)) }
         ensures parts { self.new.parts ≡ self.old.parts }

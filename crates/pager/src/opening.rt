@@ -53,8 +53,9 @@ impl<S: PageStore, R: TopRule + Drop> Pager<S, R> {
         slots: u32,
         bottom: usize,
     ) -> Result<Pager<S, R>, NotOpened<S>>
+        requires { S.PageStore.opened below }
         ensures answer { MatchResult result (λ _. may_page slots bottom ≡ Ok tt) (λ e. RefusedFor e.why slots bottom × (e.below ≡ below)) }
-        ensures ready { IfOk result (λ p. Ready S.PageStore.meaning R.TopRule.told p.works) }
+        ensures ready { IfOk result (λ p. Ready S.PageStore.opened S.PageStore.meaning R.TopRule.told p) }
         ensures fresh { IfOk result (λ p. (p.works.below ≡ below) × (p.tallies ≡ record { fetches = 0; saves = 0 }) × Shows R.TopRule.told S.PageStore.meaning (record { first = S.PageStore.meaning below; slots = slots; bottom = bottom }) p.works (untouched (record { first = S.PageStore.meaning below; slots = slots; bottom = bottom }) (R.TopRule.told rule))) }
     {
         if let Err(why) = may_page(slots, bottom) {

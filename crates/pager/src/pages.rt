@@ -1,5 +1,6 @@
 // The pager as a store of its own.
 ghost use Rattle.pager.specs.Book.{pager_meaning};
+ghost use Rattle.pager.specs.Ready.{Ready};
 
 use super::state::Pager;
 use rules::TopRule;
@@ -9,7 +10,9 @@ use store::{PageStore, StoreRefusal, Tallies};
 impl<S: PageStore, R: TopRule> PageStore for Pager<S, R> {
     ghost meaning = { λ p. pager_meaning S.PageStore.meaning p.works p.tallies };
 
-    ghost sized = { λ p. p.sized };
+    ghost opened = { λ p. Ready S.PageStore.opened S.PageStore.meaning R.TopRule.told p };
+
+    ghost sized = { λ p ready. ready.sized };
 
     fn pages(&self) -> usize {
         self.pages

@@ -5,6 +5,7 @@ ghost use Rattle.pager.specs.Frames.{In};
 ghost use Rattle.pager.specs.Settings.{Setting, pages_of};
 ghost use Rattle.pager.specs.Shows.{frames_of, StoreShows, Shows};
 ghost use Rattle.pager.specs.Book.{book_of, pager_meaning};
+ghost use Rattle.pager.specs.Booked.{Booked};
 ghost use Rattle.pager.specs.Ready.{Ready};
 ghost use Rattle.pager.specs.Partly.{partly};
 
@@ -17,8 +18,10 @@ use store::PageStore;
 impl<S: PageStore, R: TopRule> Works<S, R> {
     // The turn of one page in a settle: it is saved below if it is dirty.
     fn settle_page(&mut self, page: usize)
-        requires { (q i : ℕ) → In (frames_of self.old) q i → q < length (S.PageStore.meaning self.old.below).bytes }
-        ensures { (s : Setting) (w : Paged) → Shows R.TopRule.told S.PageStore.meaning s self.old (partly page w) → Shows R.TopRule.told S.PageStore.meaning s self.new (partly (page + 1) w) }
+        requires opened { S.PageStore.opened self.old.below }
+        requires low { (q i : ℕ) → In (frames_of self.old) q i → q < length (S.PageStore.meaning self.old.below).bytes }
+        ensures opened { S.PageStore.opened self.new.below }
+        ensures shows { (s : Setting) (w : Paged) → Shows R.TopRule.told S.PageStore.meaning s self.old (partly page w) → Shows R.TopRule.told S.PageStore.meaning s self.new (partly (page + 1) w) }
     {
         if let Some(i) = frame_of(&self.table.frames, page) {
             self.table.save(i, &mut self.below);
@@ -27,9 +30,11 @@ impl<S: PageStore, R: TopRule> Works<S, R> {
 
     // Saves each dirty page below, which has so many pages.
     fn settle(&mut self, pages: usize)
-        requires ready { ∥ Ready S.PageStore.meaning R.TopRule.told self.old ∥₁ }
+        requires opened { S.PageStore.opened self.old.below }
+        requires booked { ∥ Booked S.PageStore.meaning R.TopRule.told self.old ∥₁ }
         requires counted { pages ≡ length (S.PageStore.meaning self.old.below).bytes }
-        ensures { (s : Setting) (w : Paged) → Shows R.TopRule.told S.PageStore.meaning s self.old w → Shows R.TopRule.told S.PageStore.meaning s self.new (paged_settle (pages_of s) w) }
+        ensures opened { S.PageStore.opened self.new.below }
+        ensures shows { (s : Setting) (w : Paged) → Shows R.TopRule.told S.PageStore.meaning s self.old w → Shows R.TopRule.told S.PageStore.meaning s self.new (paged_settle (pages_of s) w) }
     {
         for page in 0..pages {
             self.settle_page(page);
@@ -40,7 +45,8 @@ impl<S: PageStore, R: TopRule> Works<S, R> {
 impl<S: PageStore, R: TopRule> Pager<S, R> {
     // Saves each dirty page below, in ascending order of the pages, and makes it clean. Nothing moves.
     pub fn settle(&mut self)
-        ensures ready { Ready S.PageStore.meaning R.TopRule.told self.old.works → Ready S.PageStore.meaning R.TopRule.told self.new.works }
+        requires { Ready S.PageStore.opened S.PageStore.meaning R.TopRule.told self.old }
+        ensures ready { Ready S.PageStore.opened S.PageStore.meaning R.TopRule.told self.new }
         ensures same { pager_meaning S.PageStore.meaning self.new.works self.new.tallies ≡ pager_meaning S.PageStore.meaning self.old.works self.old.tallies }
         ensures below { (S.PageStore.meaning self.new.works.below).bytes ≡ book_of S.PageStore.meaning self.old.works }
         ensures step { (s : Setting) (w : Paged) → Shows R.TopRule.told S.PageStore.meaning s self.old.works w → Shows R.TopRule.told S.PageStore.meaning s self.new.works (paged_settle (pages_of s) w) }
@@ -52,6 +58,8 @@ impl<S: PageStore, R: TopRule> Pager<S, R> {
 impl<S: PageStore, R: TopRule + Drop> Pager<S, R> {
     // Settles the pager and gives the store below back.
     pub fn close(mut self) -> S
+        requires { Ready S.PageStore.opened S.PageStore.meaning R.TopRule.told self }
+        ensures opened { S.PageStore.opened result }
         ensures bytes { (S.PageStore.meaning result).bytes ≡ book_of S.PageStore.meaning self.works }
         ensures step { (s : Setting) (w : Paged) → Shows R.TopRule.told S.PageStore.meaning s self.works w → StoreShows s (S.PageStore.meaning result) (paged_settle (pages_of s) w) }
     {

@@ -9,7 +9,9 @@ use store::PageStore;
 impl Frame {
     // Saves the page below if it is dirty. It is clean then.
     pub(crate) fn save_to<S: PageStore>(&mut self, below: &mut S)
+        requires opened { S.PageStore.opened below.old }
         requires there { self.old.page < length (S.PageStore.meaning below.old).bytes }
+        ensures opened { S.PageStore.opened below.new }
         ensures below { S.PageStore.meaning below.new ≡ flushed self.old (S.PageStore.meaning below.old) }
         ensures frame { self.new ≡ cleaned self.old }
     {
@@ -21,7 +23,9 @@ impl Frame {
 
     // Fetches the page's bytes from below.
     pub(crate) fn fetch_from<S: PageStore>(&mut self, below: &mut S)
+        requires opened { S.PageStore.opened below.old }
         requires there { self.old.page < length (S.PageStore.meaning below.old).bytes }
+        ensures opened { S.PageStore.opened below.new }
         ensures below { S.PageStore.meaning below.new ≡ fetched (S.PageStore.meaning below.old) }
         ensures frame { self.new ≡ filled (slice_index_or (S.PageStore.meaning below.old).bytes self.old.page []) self.old }
     {

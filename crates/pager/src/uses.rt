@@ -9,6 +9,7 @@ ghost use Rattle.pager.specs.Counted.{driven_out};
 ghost use Rattle.pager.specs.Settings.{Setting, pages_of};
 ghost use Rattle.pager.specs.Shows.{frames_of, Shows};
 ghost use Rattle.pager.specs.Book.{pager_meaning};
+ghost use Rattle.pager.specs.Booked.{Booked};
 ghost use Rattle.pager.specs.Ready.{Ready};
 ghost use Rattle.pager.specs.Touched.{touched};
 ghost use Rattle.pager.specs.Vacant.{Vacant};
@@ -30,7 +31,7 @@ struct Held {
 impl<S: PageStore, R: TopRule> Works<S, R> {
     // A use of the page that frame `i` holds.
     fn touch(&mut self, i: usize)
-        requires ready { ∥ Ready S.PageStore.meaning R.TopRule.told self.old ∥₁ }
+        requires booked { ∥ Booked S.PageStore.meaning R.TopRule.told self.old ∥₁ }
         requires held { In (frames_of self.old) (page_in (frames_of self.old) i) i }
         ensures shows { (s : Setting) (w : Paged) → Shows R.TopRule.told S.PageStore.meaning s self.old w → Shows R.TopRule.told S.PageStore.meaning s self.new (touched (rule_of R.TopRule.slot R.TopRule.next) s.slots s.bottom (page_in (frames_of self.old) i) (at (frames_of self.new) i).bytes w) }
         ensures here { In (frames_of self.new) (page_in (frames_of self.old) i) i }
@@ -42,8 +43,10 @@ impl<S: PageStore, R: TopRule> Works<S, R> {
 
     // The frame whose page is driven out where every frame holds one. The page is saved below if it is dirty.
     fn evict(&mut self) -> usize
-        requires ready { ∥ Ready S.PageStore.meaning R.TopRule.told self.old ∥₁ }
+        requires opened { S.PageStore.opened self.old.below }
+        requires booked { ∥ Booked S.PageStore.meaning R.TopRule.told self.old ∥₁ }
         requires full { (j : ℕ) → j < length (frames_of self.old) → taken (at (frames_of self.old) j).links.part ≡ true }
+        ensures opened { S.PageStore.opened self.new.below }
         ensures below { S.PageStore.meaning self.new.below ≡ flushed (at (frames_of self.old) result) (S.PageStore.meaning self.old.below) }
         ensures held { In (frames_of self.old) (page_in (frames_of self.old) result) result }
         ensures vacant { (s : Setting) (w : Paged) (p : ℕ) → Shows R.TopRule.told S.PageStore.meaning s self.old w → Absent (frames_of self.old) p → Vacant R.TopRule.told (rule_of R.TopRule.slot R.TopRule.next) s.slots s.bottom (frames_of self.old) w.pager.order p result self.new.table.parts (frames_of self.new) }
@@ -60,7 +63,9 @@ impl<S: PageStore, R: TopRule> Works<S, R> {
 
     // A frame for a page that has none: a free one, or that of a page that is driven out.
     fn make_room(&mut self) -> usize
-        requires ready { ∥ Ready S.PageStore.meaning R.TopRule.told self.old ∥₁ }
+        requires opened { S.PageStore.opened self.old.below }
+        requires booked { ∥ Booked S.PageStore.meaning R.TopRule.told self.old ∥₁ }
+        ensures opened { S.PageStore.opened self.new.below }
         ensures room { (s : Setting) (w : Paged) (p : ℕ) → Shows R.TopRule.told S.PageStore.meaning s self.old w → p < pages_of s → Absent (frames_of self.old) p → Roomy R.TopRule.told S.PageStore.meaning (rule_of R.TopRule.slot R.TopRule.next) s self.old self.new w p result }
     {
         match free_frame(&self.table.frames) {
@@ -71,9 +76,11 @@ impl<S: PageStore, R: TopRule> Works<S, R> {
 
     // A use of a page that has no frame: it gets one, which still has the bytes of before.
     fn admit(&mut self, page: usize) -> usize
-        requires ready { ∥ Ready S.PageStore.meaning R.TopRule.told self.old ∥₁ }
+        requires opened { S.PageStore.opened self.old.below }
+        requires booked { ∥ Booked S.PageStore.meaning R.TopRule.told self.old ∥₁ }
         requires low { page < length (S.PageStore.meaning self.old.below).bytes }
         requires absent { Absent (frames_of self.old) page }
+        ensures opened { S.PageStore.opened self.new.below }
         ensures shows { (s : Setting) (w : Paged) → Shows R.TopRule.told S.PageStore.meaning s self.old w → Shows R.TopRule.told S.PageStore.meaning s self.new (touched (rule_of R.TopRule.slot R.TopRule.next) s.slots s.bottom page (at (frames_of self.new) result).bytes w) }
         ensures here { In (frames_of self.new) page result }
     {
@@ -85,8 +92,10 @@ impl<S: PageStore, R: TopRule> Works<S, R> {
 
     // A use of a page before its bytes move: it has a frame in the top then.
     fn hold(&mut self, page: usize) -> Held
-        requires ready { ∥ Ready S.PageStore.meaning R.TopRule.told self.old ∥₁ }
+        requires opened { S.PageStore.opened self.old.below }
+        requires booked { ∥ Booked S.PageStore.meaning R.TopRule.told self.old ∥₁ }
         requires low { page < length (S.PageStore.meaning self.old.below).bytes }
+        ensures opened { S.PageStore.opened self.new.below }
         ensures shows { (s : Setting) (w : Paged) → Shows R.TopRule.told S.PageStore.meaning s self.old w → Shows R.TopRule.told S.PageStore.meaning s self.new (touched (rule_of R.TopRule.slot R.TopRule.next) s.slots s.bottom page (at (frames_of self.new) result.frame).bytes w) }
         ensures found { (s : Setting) (w : Paged) → Shows R.TopRule.told S.PageStore.meaning s self.old w → holds page w.pager.order ≡ not result.new }
         ensures here { In (frames_of self.new) page result.frame }
@@ -105,8 +114,10 @@ impl<S: PageStore, R: TopRule> Works<S, R> {
 
     // A read of a page before the caller gets its bytes: they are in its frame.
     fn load(&mut self, page: usize) -> usize
-        requires ready { ∥ Ready S.PageStore.meaning R.TopRule.told self.old ∥₁ }
+        requires opened { S.PageStore.opened self.old.below }
+        requires booked { ∥ Booked S.PageStore.meaning R.TopRule.told self.old ∥₁ }
         requires low { page < length (S.PageStore.meaning self.old.below).bytes }
+        ensures opened { S.PageStore.opened self.new.below }
         ensures shows { (s : Setting) (w : Paged) → Shows R.TopRule.told S.PageStore.meaning s self.old w → Shows R.TopRule.told S.PageStore.meaning s self.new (paged_read (rule_of R.TopRule.slot R.TopRule.next) s.slots s.bottom page w) }
         ensures here { In (frames_of self.new) page result }
     {
@@ -121,7 +132,8 @@ impl<S: PageStore, R: TopRule> Works<S, R> {
 impl<S: PageStore, R: TopRule> Pager<S, R> {
     // Gives the bytes of a page into the buffer.
     pub fn read(&mut self, page: usize, buffer: &mut [u8]) -> Result<(), StoreRefusal>
-        ensures ready { Ready S.PageStore.meaning R.TopRule.told self.old.works → Ready S.PageStore.meaning R.TopRule.told self.new.works }
+        requires { Ready S.PageStore.opened S.PageStore.meaning R.TopRule.told self.old }
+        ensures ready { Ready S.PageStore.opened S.PageStore.meaning R.TopRule.told self.new }
         ensures effect { Fetched (pager_meaning S.PageStore.meaning self.old.works self.old.tallies) page buffer.old result (pager_meaning S.PageStore.meaning self.new.works self.new.tallies) buffer.new }
         ensures refused { is_ok result ≡ false → self.new ≡ self.old }
         ensures step { (s : Setting) (w : Paged) → Shows R.TopRule.told S.PageStore.meaning s self.old.works w → is_ok result ≡ true → Shows R.TopRule.told S.PageStore.meaning s self.new.works (paged_read (rule_of R.TopRule.slot R.TopRule.next) s.slots s.bottom page w) }
@@ -136,7 +148,8 @@ impl<S: PageStore, R: TopRule> Pager<S, R> {
 
     // Replaces the bytes of a page by the buffer's.
     pub fn write(&mut self, page: usize, buffer: &[u8]) -> Result<(), StoreRefusal>
-        ensures ready { Ready S.PageStore.meaning R.TopRule.told self.old.works → Ready S.PageStore.meaning R.TopRule.told self.new.works }
+        requires { Ready S.PageStore.opened S.PageStore.meaning R.TopRule.told self.old }
+        ensures ready { Ready S.PageStore.opened S.PageStore.meaning R.TopRule.told self.new }
         ensures effect { Saved (pager_meaning S.PageStore.meaning self.old.works self.old.tallies) page buffer.now result (pager_meaning S.PageStore.meaning self.new.works self.new.tallies) }
         ensures refused { is_ok result ≡ false → self.new ≡ self.old }
         ensures step { (s : Setting) (w : Paged) → Shows R.TopRule.told S.PageStore.meaning s self.old.works w → is_ok result ≡ true → Shows R.TopRule.told S.PageStore.meaning s self.new.works (paged_write (rule_of R.TopRule.slot R.TopRule.next) s.slots s.bottom page buffer.now w) }

@@ -16,6 +16,7 @@ pub(crate) struct UseCounts {
 
 // A store below with the frames that hold some of its pages. A use moves frames and bytes in several steps; what is true of a
 // pager is true between uses, so that each step asks for it, and for a page below the count, and says which frame has the page.
+// A step asks for it truncated: it needs no model by name, and says of each that is shown how it goes on.
 #[derive(Drop)]
 pub(crate) struct Works<S, R> {
     pub(crate) below: S,

@@ -1,12 +1,12 @@
 -- A splice: a call of the part that has the page is a call of the whole.
-use Rattle.std.proofs.Common.{◌≡◌, ℕ, ◌+◌, ◌-◌, ◌<◌, ◌≤◌, List, [], ◌++◌, length, Some, None, Ok, Err, Result, refl, ◌∙◌, arith}
+use Rattle.std.proofs.Common.{◌≡◌, ℕ, ◌-◌, ◌<◌, ◌≤◌, List, [], ◌++◌, length, Some, None, Ok, Err, Result, refl, ◌∙◌, arith}
 use Rattle.std.proofs.lemmas.List.{length-append, get_or_append_left, get_or-append_right, set-append_left, set-append_right}
 use Rattle.std.proofs.lemmas.Bool.Decides.{nat_tests}
 use Rattle.store.specs.declared.StoreRefusal.{StoreRefusal}
 use Rattle.store.specs.declared.tallies.Tallies.{Tallies}
 use Rattle.store.specs.Meaning.{Meaning}
 use Rattle.store.specs.Counting.{tick}
-use Rattle.store.specs.Splices.{past_seam, spliced}
+use Rattle.store.specs.Splices.{Joined, past_seam, spliced}
 use Rattle.store.specs.Uses.{may_use, Fetched, Saved}
 
 -- Which part has a page: the first those below its count, and the second those from there on.
@@ -79,10 +79,10 @@ module _ (a b : Meaning) (t : Tallies) (page q : ℕ) (buf : List ℕ) (seam : S
       let k = w.effect in
       record { answered = w.answered ∙ may_second a.bytes b.bytes page q (length buf) le place; effect = cc }
 
--- A splice stays one where a part keeps as many pages.
-module _ (a b : Meaning) (few : length a.bytes + length b.bytes ≤ 512) where
-  pub joined_first : (a2 : Meaning) → length a2.bytes ≡ length a.bytes → length a2.bytes + length b.bytes ≤ 512
-  joined_first a2 e = omega (arith, few)
+-- A splice stays open where a part stays open with as many pages.
+module _ {A B : Type 0} (a b : Meaning) (j : Joined A B a b) where
+  pub joined_first : {C : Type 0} (a2 : Meaning) → C → length a2.bytes ≡ length a.bytes → Joined C B a2 b
+  joined_first a2 x e = record { one = x; other = j.other; few = omega (arith, j.few) }
 
-  pub joined_second : (b2 : Meaning) → length b2.bytes ≡ length b.bytes → length a.bytes + length b2.bytes ≤ 512
-  joined_second b2 e = omega (arith, few)
+  pub joined_second : {C : Type 0} (b2 : Meaning) → C → length b2.bytes ≡ length b.bytes → Joined A C a b2
+  joined_second b2 x e = record { one = j.one; other = x; few = omega (arith, j.few) }

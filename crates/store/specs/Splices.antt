@@ -1,4 +1,4 @@
-use Rattle.std.specs.Prelude.{ℕ, ◌+◌, ◌-◌, cond, ◌++◌, Some, None, Ok, Err, Option, Result, nat_le, nat_lt}
+use Rattle.std.specs.Prelude.{ℕ, ◌+◌, ◌-◌, ◌≤◌, cond, ◌++◌, length, Some, None, Ok, Err, Option, Result, nat_le, nat_lt}
 use Rattle.store.specs.declared.StoreRefusal.{StoreRefusal}
 use Rattle.store.specs.declared.StoreRefusal.TheVariants.{TooManyPages}
 use Rattle.store.specs.declared.tallies.Tallies.{Tallies}
@@ -15,3 +15,9 @@ spliced a b t = record { bytes = a.bytes ++ b.bytes; tallies = t }
 -- The number in the second store of a page of the splice, where the first has n pages; None for a page of the first.
 abbrev pub past_seam : ℕ → ℕ → Option ℕ
 past_seam n page = cond (nat_lt page n) None (Some (page - n))
+
+-- A splice is open where both stores are, and their pages are together at most 512.
+pub record Joined (first second : Type 0) (a b : Meaning) : Type 0 where
+  pub one : first
+  pub other : second
+  pub few : length a.bytes + length b.bytes ≤ 512

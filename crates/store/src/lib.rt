@@ -59,13 +59,17 @@ pub fn may_use(pages: usize, page: usize, length: usize) -> Result<(), StoreRefu
 
 // A store of pages.
 //
-// An implementation says by `meaning` which pages and tallies its value stands for. Each call is then held to that
-// meaning alone. By the law `sized` every value of it has from 1 to 512 pages, of 64 bytes each.
+// An implementation says by `meaning` which pages and tallies its value stands for, and by `opened` what is true of
+// it from its opening on. Each call is then held to that meaning alone. By the law `sized` every opened value of it has
+// from 1 to 512 pages, of 64 bytes each.
 pub trait PageStore {
     ghost meaning: { Self → Meaning };
 
+    ghost opened: { Self → Type 0 };
+
     // How many pages there are.
     fn pages(&self) -> usize
+        requires { opened self.now }
         ensures { result ≡ length (meaning self.now).bytes };
 
     // How many fetches and how many saves were accepted.
@@ -88,11 +92,15 @@ pub trait PageStore {
 
     // Copies the bytes of a page into the buffer. A page and a buffer are what the product asks a call to have.
     fn fetch(&mut self, page: usize, buffer: &mut [u8]) -> Result<(), StoreRefusal>
-        ensures { Fetched (meaning self.old) page buffer.old result (meaning self.new) buffer.new };
+        requires { opened self.old }
+        ensures opened { opened self.new }
+        ensures effect { Fetched (meaning self.old) page buffer.old result (meaning self.new) buffer.new };
 
     // Replaces the bytes of a page by the buffer's.
     fn save(&mut self, page: usize, buffer: &[u8]) -> Result<(), StoreRefusal>
-        ensures { Saved (meaning self.old) page buffer.now result (meaning self.new) };
+        requires { opened self.old }
+        ensures opened { opened self.new }
+        ensures effect { Saved (meaning self.old) page buffer.now result (meaning self.new) };
 
-    ghost sized: { (x : Self) → Sized (meaning x).bytes };
+    ghost sized: { (x : Self) → opened x → Sized (meaning x).bytes };
 }

@@ -1,5 +1,5 @@
 // The plain store: pages in the caller's memory, one after another.
-ghost use Rattle.std.specs.Prelude.{◌≡◌, ◌/◌, ◌<◌, true, length, MatchResult};
+ghost use Rattle.std.specs.Prelude.{◌≡◌, ◌/◌, ◌<◌, ⊤, true, length, MatchResult};
 ghost use Rattle.store.specs.declared.StoreRefusal.TheVariants.{StoreLength};
 ghost use Rattle.store.specs.Memory.{Whole, whole, may_hold, page_of, plain};
 ghost use Rattle.store.specs.SizedPages.{pages_sized};
@@ -60,7 +60,10 @@ impl<'a> PlainStore<'a> {
 impl PageStore for PlainStore<'_> {
     ghost meaning = { λ s. plain s.memory.now s.tallies };
 
-    ghost sized = { λ s. pages_sized s.memory.now s.whole };
+    // What its opening checked stands in its type, so every value of it is opened.
+    ghost opened = { λ _. ⊤ };
+
+    ghost sized = { λ s _. pages_sized s.memory.now s.whole };
 
     fn pages(&self) -> usize {
         self.memory.len() / PAGE_BYTES

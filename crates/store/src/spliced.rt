@@ -1,22 +1,22 @@
 // The spliced store: two stores of any make as one, the first one's pages coming first.
 ghost use Rattle.std.specs.Prelude.{◌≡◌, ◌+◌, ◌≤◌, length};
-ghost use Rattle.store.specs.Splices.{may_splice, past_seam, spliced};
+ghost use Rattle.store.specs.Splices.{Joined, may_splice, past_seam, spliced};
 ghost use Rattle.store.specs.SizedSplice.{sized_splice};
 
 use crate::{MOST_PAGES, PageStore, StoreRefusal, Tallies};
 
 // Two stores as one, with tallies of its own.
 #[derive(Drop)]
-pub struct SplicedStore<F: PageStore, S: PageStore> {
+pub struct SplicedStore<F, S> {
     first: F,
     second: S,
     tallies: Tallies,
-    pub ghost few: { length (F.PageStore.meaning first).bytes + length (S.PageStore.meaning second).bytes ≤ 512 },
 }
 
 impl<F: PageStore, S: PageStore> SplicedStore<F, S> {
     // Whether the two may be spliced: refused where their page counts sum above 512.
     pub fn check(first: &F, second: &S) -> Result<(), StoreRefusal>
+        requires { (F.PageStore.opened first.now) × (S.PageStore.opened second.now) }
         ensures { result ≡ may_splice (length (F.PageStore.meaning first.now).bytes) (length (S.PageStore.meaning second.now).bytes) }
     {
         if first.pages() + second.pages() > MOST_PAGES {
@@ -52,6 +52,7 @@ impl<F: PageStore, S: PageStore> SplicedStore<F, S> {
 
     // The number that a page has in the second store, or `None` for a page of the first.
     fn in_second(&self, page: usize) -> Option<usize>
+        requires { F.PageStore.opened self.now.first }
         ensures { result ≡ past_seam (length (F.PageStore.meaning self.now.first).bytes) page }
     {
         let below = self.first.pages();
@@ -66,7 +67,9 @@ impl<F: PageStore, S: PageStore> SplicedStore<F, S> {
 impl<F: PageStore, S: PageStore> PageStore for SplicedStore<F, S> {
     ghost meaning = { λ s. spliced (F.PageStore.meaning s.first) (S.PageStore.meaning s.second) s.tallies };
 
-    ghost sized = { λ s. sized_splice _ _ (F.PageStore.sized s.first) (S.PageStore.sized s.second) s.few };
+    ghost opened = { λ s. Joined (F.PageStore.opened s.first) (S.PageStore.opened s.second) (F.PageStore.meaning s.first) (S.PageStore.meaning s.second) };
+
+    ghost sized = { λ s joined. sized_splice _ _ (F.PageStore.sized s.first joined.one) (S.PageStore.sized s.second joined.other) joined.few };
 
     fn pages(&self) -> usize {
         self.first.pages() + self.second.pages()

@@ -1,6 +1,9 @@
 // Opens page stores over memory that it holds, splices and copies them, and tells what every call did.
 #![tactic(auto)]
 
+ghost use Rattle.std.specs.Prelude.{IfOk};
+ghost use Rattle.store.specs.Splices.{Joined};
+
 mod telling;
 
 use std::io;
@@ -18,7 +21,11 @@ fn page_of(fill: u8, last: u8) -> [u8; PAGE_BYTES] {
 fn join<F: PageStore + Drop, S: PageStore + Drop>(
     first: F,
     second: S,
-) -> Result<SplicedStore<F, S>, StoreRefusal> {
+) -> Result<SplicedStore<F, S>, StoreRefusal>
+    requires first { F.PageStore.opened first }
+    requires second { S.PageStore.opened second }
+    ensures { IfOk result (λ s. Joined (F.PageStore.opened s.first) (S.PageStore.opened s.second) (F.PageStore.meaning s.first) (S.PageStore.meaning s.second)) }
+{
     SplicedStore::check(&first, &second)?;
     Ok(SplicedStore::make(first, second))
 }
@@ -50,7 +57,10 @@ fn openings(rt: &HostRuntime) -> Result<(), Trouble> {
 }
 
 // The calls on either side of a splice's seam.
-fn across<S: PageStore>(rt: &HostRuntime, splice: &mut S) -> Result<(), Trouble> {
+fn across<S: PageStore>(rt: &HostRuntime, splice: &mut S) -> Result<(), Trouble>
+    requires { S.PageStore.opened splice.old }
+    ensures { S.PageStore.opened splice.new }
+{
     tell_store(rt, "the splice", splice)?;
     try_save(rt, splice, 1, &page_of(11, 12))?;
     try_save(rt, splice, 2, &page_of(21, 22))?;
@@ -78,7 +88,10 @@ fn splicing(rt: &HostRuntime) -> Result<(), Trouble> {
 }
 
 // Each refusal of a fetch and a save: the buffer's length is looked at before the page.
-fn refused<S: PageStore>(rt: &HostRuntime, store: &mut S) -> Result<(), Trouble> {
+fn refused<S: PageStore>(rt: &HostRuntime, store: &mut S) -> Result<(), Trouble>
+    requires { S.PageStore.opened store.old }
+    ensures { S.PageStore.opened store.new }
+{
     try_fetch(rt, store, 0, &mut [9; 63])?;
     try_fetch(rt, store, 1, &mut [9; 65])?;
     try_fetch(rt, store, 1, &mut page_of(31, 32))?;
@@ -102,7 +115,10 @@ fn refusals(rt: &HostRuntime) -> Result<(), Trouble> {
 }
 
 // Saves to four pages, and fetches the last and the first.
-fn four_pages<S: PageStore>(rt: &HostRuntime, store: &mut S) -> Result<(), Trouble> {
+fn four_pages<S: PageStore>(rt: &HostRuntime, store: &mut S) -> Result<(), Trouble>
+    requires { S.PageStore.opened store.old }
+    ensures { S.PageStore.opened store.new }
+{
     try_save(rt, store, 0, &page_of(41, 40))?;
     try_save(rt, store, 1, &page_of(41, 41))?;
     try_save(rt, store, 2, &page_of(41, 42))?;
@@ -145,7 +161,12 @@ fn copy<F: PageStore, T: PageStore>(
     call: &str,
     from: &mut F,
     to: &mut T,
-) -> Result<(), Trouble> {
+) -> Result<(), Trouble>
+    requires from { F.PageStore.opened from.old }
+    requires to { T.PageStore.opened to.old }
+    ensures from { F.PageStore.opened from.new }
+    ensures to { T.PageStore.opened to.new }
+{
     tell_answer(rt, call, copy_store(from, to))?;
     tell_store(rt, "from", from)?;
     tell_store(rt, "into", to)?;

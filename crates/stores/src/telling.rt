@@ -72,7 +72,9 @@ pub(crate) fn try_fetch<S: PageStore>(
     page: usize,
     buffer: &mut [u8],
 ) -> io::Result<()>
-    requires { 0 < length buffer.old }
+    requires opened { S.PageStore.opened store.old }
+    requires some { 0 < length buffer.old }
+    ensures { S.PageStore.opened store.new }
 {
     let answer = store.fetch(page, buffer);
     tell_transfer(rt, "fetch", page, buffer, answer)
@@ -85,14 +87,18 @@ pub(crate) fn try_save<S: PageStore>(
     page: usize,
     buffer: &[u8],
 ) -> io::Result<()>
-    requires { 0 < length buffer.now }
+    requires opened { S.PageStore.opened store.old }
+    requires some { 0 < length buffer.now }
+    ensures { S.PageStore.opened store.new }
 {
     let answer = store.save(page, buffer);
     tell_transfer(rt, "save", page, buffer, answer)
 }
 
 // The questions that a store answers.
-pub(crate) fn tell_store<S: PageStore>(rt: &HostRuntime, name: &str, store: &S) -> io::Result<()> {
+pub(crate) fn tell_store<S: PageStore>(rt: &HostRuntime, name: &str, store: &S) -> io::Result<()>
+    requires { S.PageStore.opened store.now }
+{
     let pages = store.pages();
     let Tallies { fetches, saves } = store.tallies();
     println!(rt; "  {name}: {pages} pages, {fetches} fetches, {saves} saves")

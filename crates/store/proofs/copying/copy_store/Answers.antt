@@ -9,7 +9,7 @@ loop-page-preserved g c =
     let same : length a.bytes ≡ length b.bytes = omega arith in
     let lt : c.loop-page.page < length a.bytes = omega arith in
     let told = c.in_ok-carry.ensures in
-    halfway_more a b _ _ _ c.loop-page.invariant same _ _ lt told.read told.written
+    (told.from, told.to, halfway_more a b _ _ _ c.loop-page.invariant.2 same _ _ lt told.read told.written)
 
 pub returns : goal.returns
 returns g c =
@@ -17,4 +17,8 @@ returns g c =
     let b = g.T.PageStore.meaning c.args.to.now in
     let same : length a.bytes ≡ length b.bytes = omega arith in
     let all : c.loop-page.page ≡ length a.bytes = omega arith in
-    halfway_all a b _ _ _ c.loop-page.invariant same (omega (arith, g.met.F.PageStore.sized c.args.from.now)) all
+    record {
+      from = c.loop-page.invariant.0;
+      to = c.loop-page.invariant.1;
+      effect = halfway_all a b _ _ _ c.loop-page.invariant.2 same (omega (arith, g.met.F.PageStore.sized c.args.from.now c.requires.from)) all;
+    }

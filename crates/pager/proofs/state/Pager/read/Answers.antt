@@ -3,32 +3,25 @@ use Rattle.std.proofs.lemmas.Result.{err_from_is_err_and}
 use Rattle.model.specs.Order.{rule_of}
 use Rattle.pager.specs.Settings.{Setting}
 use Rattle.model.specs.Bytes.{Paged, paged_read}
-use Rattle.pager.proofs.Accepting.{pages_stay, pager_sized, refused_read, read_goes_on, read_stays, read_effect}
+use Rattle.pager.proofs.Accepting.{pages_stay, ready_of, refused_read, read_goes_on, read_effect}
 use Rattle.pager.proofs.state.Pager.read.Goals as goal
 
 pub returns-in_err-may_use-clause-effect : goal.returns-in_err-may_use-clause-effect
 returns-in_err-may_use-clause-effect g c =
     let p = c.args.self.now in
     let e = err_from_is_err_and c.from_residual.result c.from_residual.ensures.1 in
-    rw (e.1, e.2) (refused_read g.S.PageStore.meaning g.R.TopRule.told p.works p.ready p.tallies c.args.page c.args.buffer.now _ (rw c.args.self.now.counted at c.in_err-may_use.ensures))
-
-pub invariant_of-self : goal.invariant_of-self
-invariant_of-self g c =
-    let p = c.args.self.now in
-    let ready = read_stays g.S.PageStore.meaning g.R.TopRule.told p.works p.ready p.tallies c.args.page c.args.buffer.now c.load-frame.new.self (rule_of g.R.TopRule.slot g.R.TopRule.next) (λ state k pos. g.met.R.TopRule.below state k pos) (rw c.args.self.now.counted at c.in_ok-may_use.ensures) c.load-frame.ensures.shows in
-    record {
-      ready = ready;
-      sized = pager_sized g.S.PageStore.meaning g.R.TopRule.told c.load-frame.new.self ready;
-      counted = p.counted ∙ pages_stay g.S.PageStore.meaning g.R.TopRule.told p.works c.load-frame.new.self p.ready (λ (s : Setting) (w : Paged). paged_read (rule_of g.R.TopRule.slot g.R.TopRule.next) s.slots s.bottom c.args.page w) c.load-frame.ensures.shows;
-    }
+    rw (e.1, e.2) (refused_read g.S.PageStore.meaning g.R.TopRule.told p.works ∣ c.requires.booked ∣₁ p.tallies c.args.page c.args.buffer.now _ (rw c.requires.counted at c.in_err-may_use.ensures))
 
 pub returns-clause-ready : goal.returns-clause-ready
 returns-clause-ready g c =
     let p = c.args.self.now in
-    read_goes_on g.S.PageStore.meaning g.R.TopRule.told p.works p.ready p.tallies c.args.page c.args.buffer.now c.load-frame.new.self (rule_of g.R.TopRule.slot g.R.TopRule.next) (λ state k pos. g.met.R.TopRule.below state k pos) (rw p.counted at c.in_ok-may_use.ensures) c.load-frame.ensures.shows
+    let rule = rule_of g.R.TopRule.slot g.R.TopRule.next in
+    let booked = ∣ c.requires.booked ∣₁ in
+    let after = read_goes_on g.S.PageStore.meaning g.R.TopRule.told p.works booked p.tallies c.args.page c.args.buffer.now c.load-frame.new.self rule (λ state k pos. g.met.R.TopRule.below state k pos) (rw c.requires.counted at c.in_ok-may_use.ensures) c.load-frame.ensures.shows c.requires.booked in
+    ready_of g.S.PageStore.opened g.S.PageStore.meaning g.R.TopRule.told _ c.load-frame.ensures.opened after (c.requires.counted ∙ pages_stay g.S.PageStore.meaning g.R.TopRule.told p.works c.load-frame.new.self booked (λ (s : Setting) (w : Paged). paged_read rule s.slots s.bottom c.args.page w) c.load-frame.ensures.shows)
 
 pub returns-clause-effect : goal.returns-clause-effect
 returns-clause-effect g c =
     let p = c.args.self.now in
-    rw c.note_fetch.ensures (read_effect g.S.PageStore.meaning g.R.TopRule.told p.works p.ready p.tallies c.args.page c.args.buffer.now c.load-frame.new.self (rule_of g.R.TopRule.slot g.R.TopRule.next) (λ state k pos. g.met.R.TopRule.below state k pos) (rw c.args.self.now.counted at c.in_ok-may_use.ensures) c.load-frame.ensures.shows c.load-frame.result _
+    rw c.note_fetch.ensures (read_effect g.S.PageStore.meaning g.R.TopRule.told p.works ∣ c.requires.booked ∣₁ p.tallies c.args.page c.args.buffer.now c.load-frame.new.self (rule_of g.R.TopRule.slot g.R.TopRule.next) (λ state k pos. g.met.R.TopRule.below state k pos) (rw c.requires.counted at c.in_ok-may_use.ensures) c.load-frame.ensures.shows c.load-frame.result _
     c.load-frame.ensures.here c.give.ensures)

@@ -13,14 +13,14 @@ use Rattle.pager.proofs.works.Works.admit.Goals as goal
 pub occupy-requires-clause-within : goal.occupy-requires-clause-within
 occupy-requires-clause-within g c =
     let q = c.make_room-i.new.self in
-    let low : c.make_room-i.result < length (frames_of q) = ∥∥₁_elim c.requires.ready le_prop (λ y.
+    let low : c.make_room-i.result < length (frames_of q) = ∥∥₁_elim c.requires.booked le_prop (λ y.
     let fits : c.args.page < pages_of y.setting = omega (arith, c.requires.low, y.shows.store.pages_are) in
     let room = c.make_room-i.ensures.room y.setting y.model c.args.page y.shows fits c.requires.absent in
     omega (arith, room.vacant.within, room.long)) in
     omega (arith, low, q.table.frames.ok.0)
 
 pub occupy-requires-clause-absent : goal.occupy-requires-clause-absent
-occupy-requires-clause-absent g c = λ j h. ∥∥₁_elim c.requires.ready never_prop (λ y.
+occupy-requires-clause-absent g c = λ j h. ∥∥₁_elim c.requires.booked never_prop (λ y.
     let fits : c.args.page < pages_of y.setting = omega (arith, c.requires.low, y.shows.store.pages_are) in
     c.requires.absent j ((c.make_room-i.ensures.room y.setting y.model c.args.page y.shows fits c.requires.absent).vacant.before c.args.page j h))
 
@@ -40,7 +40,7 @@ returns-clause-shows g c =
 pub returns-clause-here : goal.returns-clause-here
 returns-clause-here g c =
     let u = vec_items c.occupy.new.self.frames in
-    ∥∥₁_elim c.requires.ready (in_prop u c.args.page c.make_room-i.result) (λ y.
+    ∥∥₁_elim c.requires.booked (in_prop u c.args.page c.make_room-i.result) (λ y.
     let fits : c.args.page < pages_of y.setting = omega (arith, c.requires.low, y.shows.store.pages_are) in
     let room = c.make_room-i.ensures.room y.setting y.model c.args.page y.shows fits c.requires.absent in
     (c.occupy.ensures.step room.vacant.between room.vacant.shows).here)

@@ -17,7 +17,7 @@ save-requires-clause-within g c =
     let t = frames_of p in
     let u = c.vacate-i.new.self.frames in
     let i = c.vacate-i.result in
-    let held : In t (page_in t i) i = ∥∥₁_elim c.requires.ready (in_prop t (page_in t i) i) (λ y. c.vacate-i.ensures.held y.setting.bottom y.model.pager.order y.shows.frames.order_is (room_as g.R.TopRule.told y.setting p.table.parts t y.model y.shows.frames)) in
+    let held : In t (page_in t i) i = ∥∥₁_elim c.requires.booked (in_prop t (page_in t i) i) (λ y. c.vacate-i.ensures.held y.setting.bottom y.model.pager.order y.shows.frames.order_is (room_as g.R.TopRule.told y.setting p.table.parts t y.model y.shows.frames)) in
     omega (arith, held.within, same_length t (vec_items u) c.vacate-i.ensures.same, u.ok.0)
 
 pub save-requires-clause-there : goal.save-requires-clause-there
@@ -26,8 +26,8 @@ save-requires-clause-there g c =
     let t = frames_of p in
     let u = c.vacate-i.new.self.frames in
     let i = c.vacate-i.result in
-    let held : In t (page_in t i) i = ∥∥₁_elim c.requires.ready (in_prop t (page_in t i) i) (λ y. c.vacate-i.ensures.held y.setting.bottom y.model.pager.order y.shows.frames.order_is (room_as g.R.TopRule.told y.setting p.table.parts t y.model y.shows.frames)) in
-    let low = low_ready g.S.PageStore.meaning g.R.TopRule.told p c.requires.ready (page_in t i) i held in
+    let held : In t (page_in t i) i = ∥∥₁_elim c.requires.booked (in_prop t (page_in t i) i) (λ y. c.vacate-i.ensures.held y.setting.bottom y.model.pager.order y.shows.frames.order_is (room_as g.R.TopRule.told y.setting p.table.parts t y.model y.shows.frames)) in
+    let low = low_ready g.S.PageStore.meaning g.R.TopRule.told p c.requires.booked (page_in t i) i held in
     omega (arith, low, same_page t (vec_items u) c.vacate-i.ensures.same i)
 
 pub returns-clause-below : goal.returns-clause-below
@@ -43,7 +43,7 @@ returns-clause-held g c =
     let p = c.args.self.now in
     let t = frames_of p in
     let i = c.vacate-i.result in
-    let held : In t (page_in t i) i = ∥∥₁_elim c.requires.ready (in_prop t (page_in t i) i) (λ y. c.vacate-i.ensures.held y.setting.bottom y.model.pager.order y.shows.frames.order_is (room_as g.R.TopRule.told y.setting p.table.parts t y.model y.shows.frames)) in
+    let held : In t (page_in t i) i = ∥∥₁_elim c.requires.booked (in_prop t (page_in t i) i) (λ y. c.vacate-i.ensures.held y.setting.bottom y.model.pager.order y.shows.frames.order_is (room_as g.R.TopRule.told y.setting p.table.parts t y.model y.shows.frames)) in
     held
 
 pub returns-clause-vacant : goal.returns-clause-vacant
@@ -64,7 +64,7 @@ returns-clause-others g c =
     let i = c.vacate-i.result in
     let u = vec_items c.vacate-i.new.self.frames in
     let u' = vec_items c.save.new.self.frames in
-    let held : In t (page_in t i) i = ∥∥₁_elim c.requires.ready (in_prop t (page_in t i) i) (λ y. c.vacate-i.ensures.held y.setting.bottom y.model.pager.order y.shows.frames.order_is (room_as g.R.TopRule.told y.setting p.table.parts t y.model y.shows.frames)) in
+    let held : In t (page_in t i) i = ∥∥₁_elim c.requires.booked (in_prop t (page_in t i) i) (λ y. c.vacate-i.ensures.held y.setting.bottom y.model.pager.order y.shows.frames.order_is (room_as g.R.TopRule.told y.setting p.table.parts t y.model y.shows.frames)) in
     let long = same_length t u c.vacate-i.ensures.same in
     let low : i < length u = omega (arith, held.within, long) in
     λ j ne. ap contents (at_other u u' i (cleaned (at u i)) c.save.ensures.wrote low refl refl refl j ne) ∙ same_at t u c.vacate-i.ensures.same j

@@ -13,7 +13,7 @@ pub fetch-requires-clause-there : goal.fetch-requires-clause-there
 fetch-requires-clause-there g c =
     let q = c.hold-held.new.self in
     let here = c.hold-held.ensures.here in
-    let low : c.args.page < length (g.S.PageStore.meaning q.below).bytes = ∥∥₁_elim c.requires.ready le_prop (λ y.
+    let low : c.args.page < length (g.S.PageStore.meaning q.below).bytes = ∥∥₁_elim c.requires.booked le_prop (λ y.
     omega (arith, c.requires.low, y.shows.store.pages_are, (c.hold-held.ensures.shows y.setting y.model y.shows).store.pages_are)) in
     omega (arith, here.here, low)
 

@@ -29,4 +29,4 @@ pub returns-clause-here : goal.returns-clause-here
 returns-clause-here g c =
     let p = c.args.self.now in
     let t = frames_of p in
-    ∥∥₁_elim c.requires.ready (in_prop (vec_items c.seat.new.self.frames) (page_in t c.args.i) c.args.i) (λ y. (c.seat.ensures.sat y.model.pager.order y.shows.frames.order_is).here)
+    ∥∥₁_elim c.requires.booked (in_prop (vec_items c.seat.new.self.frames) (page_in t c.args.i) c.args.i) (λ y. (c.seat.ensures.sat y.model.pager.order y.shows.frames.order_is).here)

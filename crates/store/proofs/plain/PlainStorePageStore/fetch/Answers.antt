@@ -7,5 +7,5 @@ copy_page-requires c =
     let ok = c.in_ok-may_use.ensures in
     (in_memory _ _ _ _ c.pages.ensures ok, accepted_length _ _ _ ok)
 
-pub returns : goal.returns
-returns c = simp (c.copy_page.ensures, c.note_fetch.ensures) (plain_fetched _ _ _ _ _ c.pages.ensures c.in_ok-may_use.ensures)
+pub returns-clause-effect : goal.returns-clause-effect
+returns-clause-effect c = simp (c.copy_page.ensures, c.note_fetch.ensures) (plain_fetched _ _ _ _ _ c.pages.ensures c.in_ok-may_use.ensures)

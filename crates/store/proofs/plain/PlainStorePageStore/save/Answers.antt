@@ -20,7 +20,7 @@ slice_bounds-copy_from_slice-end c =
     let h : c.args.page < length c.args.self.now.memory.now / 64 = in_memory _ _ _ _ c.pages.ensures c.in_ok-may_use.ensures in
     omega arith
 
-pub returns : goal.returns
-returns c =
+pub returns-clause-effect : goal.returns-clause-effect
+returns-clause-effect c =
     let k : 64 * c.args.page + 64 - 64 * c.args.page ≡ 64 = omega arith in
     rw c.note_save.ensures (plain_saved c.args.self.now.memory.now _ c.copy_from_slice.new.self c.args.page _ _ _ c.pages.ensures k c.copy_from_slice.ensures.after c.in_ok-may_use.ensures)
