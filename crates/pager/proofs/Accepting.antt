@@ -14,7 +14,6 @@ use Rattle.model.specs.Order.{Rule}
 use Rattle.model.specs.Bytes.{Paged, paged_read, paged_write, writes, book_step}
 use Rattle.model.proofs.Bytes.{kept_read, kept_write}
 use Rattle.pager.specs.declared.works.Works.{Works}
-use Rattle.pager.specs.declared.state.Pager.{Pager}
 use Rattle.std.proofs.Props.{props}
 use Rattle.pager.specs.declared.frame.Frame.{Frame}
 use Rattle.pager.specs.Frames.{at, In}
@@ -22,7 +21,6 @@ use Rattle.pager.specs.Settings.{Setting, pages_of}
 use Rattle.pager.specs.Shows.{frames_of, Shows}
 use Rattle.pager.specs.Book.{bytes_of, book_of, pager_meaning}
 use Rattle.pager.specs.Booked.{Booked}
-use Rattle.pager.specs.Ready.{Ready}
 use Rattle.pager.proofs.Holders.{in_order}
 use Rattle.pager.proofs.Touching.{rule_below}
 use Rattle.pager.proofs.Booking.{pages_by, page_at, book_is, book_write}
@@ -156,7 +154,3 @@ module _ {S R : Type 0} (meaning : S → Meaning) (told : R → ℕ) (P : Works 
           answered = answer;
           effect = ap (λ xs. record { bytes = xs; tallies = one_save t }) (∥∥₁_elim booked (books_set _ _) (λ y. write_keeps meaning told P y page (low y) Q r (slots y) b long (shows y.setting y.model y.shows)));
         }
-
--- A pager over an open store is ready where its works are booked and it keeps the count of the pages below.
-pub ready_of : {S R : Type 0} (opened : S → Type 0) (meaning : S → Meaning) (told : R → ℕ) (P : Pager S R) → opened P.works.below → Booked meaning told P.works → P.pages ≡ length (meaning P.works.below).bytes → Ready opened meaning told P
-ready_of opened meaning told P store booked counted = record { store = store; booked = booked; sized = pager_sized meaning told P.works ∣ booked ∣₁; counted = counted }

@@ -12,8 +12,6 @@ impl<S: PageStore, R: TopRule> PageStore for Pager<S, R> {
 
     ghost opened = { λ p. Ready S.PageStore.opened S.PageStore.meaning R.TopRule.told p };
 
-    ghost sized = { λ p ready. ready.sized };
-
     fn pages(&self) -> usize {
         self.pages
     }

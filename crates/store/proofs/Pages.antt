@@ -1,15 +1,42 @@
 -- The pages of a memory: how many, what each is, and what a write of one leaves.
-use Rattle.std.proofs.Common.{◌≡◌, ℕ, ◌+◌, ◌-◌, ◌*◌, ◌/◌, ◌<◌, ◌≢◌, List, [], length, get_or, take, drop, set, Ok, sym, refl, ap, ◌∙◌, inl, inr, arith, rules}
+use Rattle.std.proofs.Common.{◌≡◌, ℕ, ◌+◌, ◌-◌, ◌*◌, ◌/◌, ◌<◌, ◌≢◌, true, List, [], length, get_or, take, drop, set, Ok, sym, refl, ap, ◌∙◌, inl, inr, arith, rules}
 use borrow.Rule.Slice.PartMut.{put_mid}
 use Rattle.std.proofs.lemmas.List.{ext_get_or, places, get_or-set_same, get_or-set_other, length-set}
 use Rattle.std.proofs.lemmas.Slice.{between-put_mid, take-put_mid_below, drop-put_mid, between_is}
+use Rattle.std.proofs.lemmas.List.Edits.{length-between}
+use Rattle.std.proofs.lemmas.List.FromFn.{length-map-range_with_len, get_or-map-range_with_len}
 use Rattle.std.proofs.lemmas.Bool.{cases_eq, cases_lt}
+use Rattle.std.proofs.lemmas.Bool.Decides.{nat_tests}
 use Rattle.store.specs.declared.tallies.Tallies.{Tallies}
 use Rattle.store.specs.Counting.{one_fetch, one_save}
-use Rattle.store.specs.Memory.{Whole, page_of, pages_of, plain}
-use Rattle.store.specs.SizedPages.{pages_length, pages_read}
+use Rattle.store.specs.Memory.{Whole, whole, page_of, pages_of, plain}
+use Rattle.store.specs.Sized.{Sized}
 use Rattle.store.specs.Uses.{may_use, Fetched, Saved}
 use Rattle.store.proofs.Calls.{accepted_length, accepted_page}
+
+pub pages_length : (m : List ℕ) → length (pages_of m) ≡ length m / 64
+pages_length m = length-map-range_with_len (page_of m) 0 (length m / 64)
+
+pub pages_read : (m : List ℕ) (p : ℕ) (d : List ℕ) → p < length m / 64 → get_or (pages_of m) p d ≡ page_of m p
+pages_read m p d h = get_or-map-range_with_len (page_of m) 0 (length m / 64) p p d h (omega arith)
+
+pub page_length : (m : List ℕ) (p : ℕ) → p < length m / 64 → length (page_of m p) ≡ 64
+page_length m p h = let e = length-between m (64 * p) (64 * p + 64) (omega arith) in omega arith
+
+-- What the test for a whole length says.
+pub whole_is : (len : ℕ) → whole len ≡ true → Whole len
+whole_is len h = record { pages = len / 64; some = grind (arith, nat_tests, h); few = grind (arith, nat_tests, h); long = grind (arith, nat_tests, h) }
+
+-- A memory of a whole length has from 1 to 512 pages of 64 bytes.
+pub sized_of_whole : (m : List ℕ) → Whole (length m) → Sized (pages_of m)
+sized_of_whole m w = record {
+  some = let n = pages_length m in omega (arith, w.some, w.long);
+  few = let n = pages_length m in omega (arith, w.few, w.long);
+  even = λ p h. let n = pages_length m in let lt : p < length m / 64 = omega arith in ap length (pages_read m p [] lt) ∙ page_length m p lt;
+}
+
+pub pages_sized : (m : List ℕ) → whole (length m) ≡ true → Sized (pages_of m)
+pages_sized m h = sized_of_whole m (whole_is (length m) h)
 
 module _ (m b : List ℕ) (p k : ℕ) (in-it : p < length m / 64) (k-is : k ≡ 64) (len : length b ≡ 64) where
   pub length_put : length (put_mid (64 * p) k m b) ≡ length m

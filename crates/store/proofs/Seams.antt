@@ -1,11 +1,13 @@
 -- A splice: a call of the part that has the page is a call of the whole.
-use Rattle.std.proofs.Common.{◌≡◌, ℕ, ◌-◌, ◌<◌, ◌≤◌, List, [], ◌++◌, length, Some, None, Ok, Err, Result, refl, ◌∙◌, arith}
+use Rattle.std.proofs.Common.{◌≡◌, ℕ, ◌+◌, ◌-◌, ◌<◌, ◌≤◌, List, [], ◌++◌, length, Some, None, Ok, Err, Result, refl, ap, ◌∙◌, inl, inr, arith}
 use Rattle.std.proofs.lemmas.List.{length-append, get_or_append_left, get_or-append_right, set-append_left, set-append_right}
+use Rattle.std.proofs.lemmas.Bool.{cases_lt}
 use Rattle.std.proofs.lemmas.Bool.Decides.{nat_tests}
 use Rattle.store.specs.declared.StoreRefusal.{StoreRefusal}
 use Rattle.store.specs.declared.tallies.Tallies.{Tallies}
 use Rattle.store.specs.Meaning.{Meaning}
 use Rattle.store.specs.Counting.{tick}
+use Rattle.store.specs.Sized.{Sized}
 use Rattle.store.specs.Splices.{Joined, past_seam, spliced}
 use Rattle.store.specs.Uses.{may_use, Fetched, Saved}
 
@@ -78,6 +80,19 @@ module _ (a b : Meaning) (t : Tallies) (page q : ℕ) (buf : List ℕ) (seam : S
   save_second b2 (Err e) w =
       let k = w.effect in
       record { answered = w.answered ∙ may_second a.bytes b.bytes page q (length buf) le place; effect = cc }
+
+-- The pages of a splice are from 1 to 512, of 64 bytes each.
+pub sized_splice : (xs ys : List (List ℕ)) → Sized xs → Sized ys → length xs + length ys ≤ 512 → Sized (xs ++ ys)
+sized_splice xs ys a b h =
+    let e = length-append xs ys in
+    record {
+      some = omega (arith, a.some);
+      few = omega arith;
+      even = λ p lt. elim (cases_lt p (length xs)) [
+        | inl l ↦ ap length (get_or_append_left xs ys [] p l) ∙ a.even p l
+        | inr r ↦ ap length (get_or-append_right xs ys (length xs) p [] refl r) ∙ b.even (p - length xs) (omega arith)
+      ];
+    }
 
 -- A splice stays open where a part stays open with as many pages.
 module _ {A B : Type 0} (a b : Meaning) (j : Joined A B a b) where

@@ -6,5 +6,3 @@ pub mod Sized
 pub mod Memory
 pub mod Splices
 pub mod Copies
-pub mod SizedPages
-pub mod SizedSplice

@@ -60,17 +60,17 @@ pub fn may_use(pages: usize, page: usize, length: usize) -> Result<(), StoreRefu
 // A store of pages.
 //
 // An implementation says by `meaning` which pages and tallies its value stands for, and by `opened` what is true of
-// it from its opening on. Each call is then held to that meaning alone. By the law `sized` every opened value of it has
-// from 1 to 512 pages, of 64 bytes each.
+// it from its opening on. Each call is then held to that meaning alone.
 pub trait PageStore {
     ghost meaning: { Self → Meaning };
 
     ghost opened: { Self → Type 0 };
 
-    // How many pages there are.
+    // How many pages there are: from 1 to 512, of 64 bytes each.
     fn pages(&self) -> usize
         requires { opened self.now }
-        ensures { result ≡ length (meaning self.now).bytes };
+        ensures count { result ≡ length (meaning self.now).bytes }
+        ensures sized { Sized (meaning self.now).bytes };
 
     // How many fetches and how many saves were accepted.
     fn tallies(&self) -> Tallies
@@ -101,6 +101,4 @@ pub trait PageStore {
         requires { opened self.old }
         ensures opened { opened self.new }
         ensures effect { Saved (meaning self.old) page buffer.now result (meaning self.new) };
-
-    ghost sized: { (x : Self) → opened x → Sized (meaning x).bytes };
 }

@@ -2,7 +2,6 @@
 ghost use Rattle.std.specs.Prelude.{◌≡◌, ◌/◌, ◌<◌, ⊤, true, length, MatchResult};
 ghost use Rattle.store.specs.declared.StoreRefusal.TheVariants.{StoreLength};
 ghost use Rattle.store.specs.Memory.{Whole, whole, may_hold, page_of, plain};
-ghost use Rattle.store.specs.SizedPages.{pages_sized};
 
 use crate::{MOST_PAGES, PAGE_BYTES, PageStore, StoreRefusal, Tallies, may_use};
 
@@ -62,8 +61,6 @@ impl PageStore for PlainStore<'_> {
 
     // What its opening checked stands in its type, so every value of it is opened.
     ghost opened = { λ _. ⊤ };
-
-    ghost sized = { λ s _. pages_sized s.memory.now s.whole };
 
     fn pages(&self) -> usize {
         self.memory.len() / PAGE_BYTES

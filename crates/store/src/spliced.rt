@@ -1,7 +1,6 @@
 // The spliced store: two stores of any make as one, the first one's pages coming first.
 ghost use Rattle.std.specs.Prelude.{◌≡◌, ◌+◌, ◌≤◌, length};
 ghost use Rattle.store.specs.Splices.{Joined, may_splice, past_seam, spliced};
-ghost use Rattle.store.specs.SizedSplice.{sized_splice};
 
 use crate::{MOST_PAGES, PageStore, StoreRefusal, Tallies};
 
@@ -68,8 +67,6 @@ impl<F: PageStore, S: PageStore> PageStore for SplicedStore<F, S> {
     ghost meaning = { λ s. spliced (F.PageStore.meaning s.first) (S.PageStore.meaning s.second) s.tallies };
 
     ghost opened = { λ s. Joined (F.PageStore.opened s.first) (S.PageStore.opened s.second) (F.PageStore.meaning s.first) (S.PageStore.meaning s.second) };
-
-    ghost sized = { λ s joined. sized_splice _ _ (F.PageStore.sized s.first joined.one) (S.PageStore.sized s.second joined.other) joined.few };
 
     fn pages(&self) -> usize {
         self.first.pages() + self.second.pages()

@@ -20,5 +20,5 @@ returns g c =
     record {
       from = c.loop-page.invariant.0;
       to = c.loop-page.invariant.1;
-      effect = halfway_all a b _ _ _ c.loop-page.invariant.2 same (omega (arith, g.met.F.PageStore.sized c.args.from.now c.requires.from)) all;
+      effect = halfway_all a b _ _ _ c.loop-page.invariant.2 same (omega (arith, c.pages-pages.ensures.sized.some)) all;
     }

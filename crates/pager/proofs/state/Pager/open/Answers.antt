@@ -1,7 +1,6 @@
 use Rattle.std.proofs.Common.{◌≡◌, ◌+◌, refl, rules}
 use Rattle.pager.specs.Settings.{Setting}
 use Rattle.pager.proofs.Fresh.{zeros, fresh_seated, fresh_frames, fresh_shows, fresh_ready}
-use Rattle.pager.proofs.Accepting.{ready_of}
 use Rattle.pager.proofs.state.Pager.open.Goals as goal
 
 pub invariant_of-table : goal.invariant_of-table
@@ -13,8 +12,11 @@ returns-clause-ready g c =
     let told = g.R.TopRule.told c.args.rule in
     let frames = fresh_frames g.R.TopRule.told told c.make.result (c.args.slots + c.args.bottom) _ c.in-Ok.ensures c.make.ensures.stands s c.make.ensures.slots refl in
     let counts : c.default.result ≡ zeros = search rules in
-    let after = fresh_ready g.R.TopRule.told g.S.PageStore.meaning s _ told (g.met.S.PageStore.sized c.args.below c.requires) (fresh_shows g.R.TopRule.told g.S.PageStore.meaning s _ told refl counts frames) in
-    ready_of g.S.PageStore.opened g.S.PageStore.meaning g.R.TopRule.told _ c.requires after c.pages-pages.ensures
+    record {
+      store = c.requires;
+      booked = fresh_ready g.R.TopRule.told g.S.PageStore.meaning s _ told c.pages-pages.ensures.sized (fresh_shows g.R.TopRule.told g.S.PageStore.meaning s _ told refl counts frames);
+      counted = c.pages-pages.ensures.count;
+    }
 
 pub returns-clause-fresh : goal.returns-clause-fresh
 returns-clause-fresh g c =

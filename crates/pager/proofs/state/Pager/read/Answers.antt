@@ -3,7 +3,7 @@ use Rattle.std.proofs.lemmas.Result.{err_from_is_err_and}
 use Rattle.model.specs.Order.{rule_of}
 use Rattle.pager.specs.Settings.{Setting}
 use Rattle.model.specs.Bytes.{Paged, paged_read}
-use Rattle.pager.proofs.Accepting.{pages_stay, ready_of, refused_read, read_goes_on, read_effect}
+use Rattle.pager.proofs.Accepting.{pages_stay, refused_read, read_goes_on, read_effect}
 use Rattle.pager.proofs.state.Pager.read.Goals as goal
 
 pub returns-in_err-may_use-clause-effect : goal.returns-in_err-may_use-clause-effect
@@ -17,8 +17,11 @@ returns-clause-ready g c =
     let p = c.args.self.now in
     let rule = rule_of g.R.TopRule.slot g.R.TopRule.next in
     let booked = ∣ c.requires.booked ∣₁ in
-    let after = read_goes_on g.S.PageStore.meaning g.R.TopRule.told p.works booked p.tallies c.args.page c.args.buffer.now c.load-frame.new.self rule (λ state k pos. g.met.R.TopRule.below state k pos) (rw c.requires.counted at c.in_ok-may_use.ensures) c.load-frame.ensures.shows c.requires.booked in
-    ready_of g.S.PageStore.opened g.S.PageStore.meaning g.R.TopRule.told _ c.load-frame.ensures.opened after (c.requires.counted ∙ pages_stay g.S.PageStore.meaning g.R.TopRule.told p.works c.load-frame.new.self booked (λ (s : Setting) (w : Paged). paged_read rule s.slots s.bottom c.args.page w) c.load-frame.ensures.shows)
+    record {
+      store = c.load-frame.ensures.opened;
+      booked = read_goes_on g.S.PageStore.meaning g.R.TopRule.told p.works booked p.tallies c.args.page c.args.buffer.now c.load-frame.new.self rule (λ state k pos. g.met.R.TopRule.below state k pos) (rw c.requires.counted at c.in_ok-may_use.ensures) c.load-frame.ensures.shows c.requires.booked;
+      counted = c.requires.counted ∙ pages_stay g.S.PageStore.meaning g.R.TopRule.told p.works c.load-frame.new.self booked (λ (s : Setting) (w : Paged). paged_read rule s.slots s.bottom c.args.page w) c.load-frame.ensures.shows;
+    }
 
 pub returns-clause-effect : goal.returns-clause-effect
 returns-clause-effect g c =

@@ -1,7 +1,7 @@
 use Rattle.std.proofs.Common.{ap, ◌∙◌}
 use Rattle.model.specs.Bytes.{Paged, paged_settle}
 use Rattle.pager.specs.Settings.{Setting, pages_of}
-use Rattle.pager.proofs.Accepting.{pages_stay, ready_of}
+use Rattle.pager.proofs.Accepting.{pages_stay}
 use Rattle.pager.proofs.Settling.{settle_goes_on, settled_keeps, settled_below}
 use Rattle.pager.proofs.state.Pager.settle.Goals as goal
 
@@ -9,8 +9,11 @@ pub returns-clause-ready : goal.returns-clause-ready
 returns-clause-ready g c =
     let p = c.args.self.now in
     let booked = ∣ c.requires.booked ∣₁ in
-    let after = settle_goes_on g.S.PageStore.meaning g.R.TopRule.told p.works c.settle.new.self booked c.settle.ensures.shows c.requires.booked in
-    ready_of g.S.PageStore.opened g.S.PageStore.meaning g.R.TopRule.told _ c.settle.ensures.opened after (c.requires.counted ∙ pages_stay g.S.PageStore.meaning g.R.TopRule.told p.works c.settle.new.self booked (λ (s : Setting) (w : Paged). paged_settle (pages_of s) w) c.settle.ensures.shows)
+    record {
+      store = c.settle.ensures.opened;
+      booked = settle_goes_on g.S.PageStore.meaning g.R.TopRule.told p.works c.settle.new.self booked c.settle.ensures.shows c.requires.booked;
+      counted = c.requires.counted ∙ pages_stay g.S.PageStore.meaning g.R.TopRule.told p.works c.settle.new.self booked (λ (s : Setting) (w : Paged). paged_settle (pages_of s) w) c.settle.ensures.shows;
+    }
 
 pub returns-clause-same : goal.returns-clause-same
 returns-clause-same g c =

@@ -8,7 +8,7 @@ use Rattle.pager.proofs.Seating.{apart_in}
 use Rattle.pager.proofs.Altering.{write_after}
 use Rattle.pager.specs.Settings.{Setting}
 use Rattle.model.specs.Bytes.{Paged, paged_write}
-use Rattle.pager.proofs.Accepting.{pages_stay, ready_of, refused_write, write_goes_on, write_effect}
+use Rattle.pager.proofs.Accepting.{pages_stay, refused_write, write_goes_on, write_effect}
 use Rattle.pager.proofs.state.Pager.write.Goals as goal
 
 pub returns-in_err-may_use-clause-effect : goal.returns-in_err-may_use-clause-effect
@@ -26,8 +26,11 @@ returns-clause-ready g c =
     let ok = rw c.requires.counted at c.in_ok-may_use.ensures in
     let shows = write_after g.R.TopRule.told g.S.PageStore.meaning rule p.works q z c.args.page c.hold-held.result.frame c.hold-held.ensures.shows c.hold-held.ensures.here (apart_in q.table.parts (frames_of q) q.table.seated) (accepted_page _ _ _ ok) c.args.buffer.now c.take.ensures.parts refl refl c.take.ensures.wrote in
     let booked = ∣ c.requires.booked ∣₁ in
-    let after = write_goes_on g.S.PageStore.meaning g.R.TopRule.told p.works booked p.tallies c.args.page c.args.buffer.now z rule (λ state k pos. g.met.R.TopRule.below state k pos) ok shows c.requires.booked in
-    ready_of g.S.PageStore.opened g.S.PageStore.meaning g.R.TopRule.told _ c.hold-held.ensures.opened after (c.requires.counted ∙ pages_stay g.S.PageStore.meaning g.R.TopRule.told p.works z booked (λ (s : Setting) (w : Paged). paged_write rule s.slots s.bottom c.args.page c.args.buffer.now w) shows)
+    record {
+      store = c.hold-held.ensures.opened;
+      booked = write_goes_on g.S.PageStore.meaning g.R.TopRule.told p.works booked p.tallies c.args.page c.args.buffer.now z rule (λ state k pos. g.met.R.TopRule.below state k pos) ok shows c.requires.booked;
+      counted = c.requires.counted ∙ pages_stay g.S.PageStore.meaning g.R.TopRule.told p.works z booked (λ (s : Setting) (w : Paged). paged_write rule s.slots s.bottom c.args.page c.args.buffer.now w) shows;
+    }
 
 pub returns-clause-effect : goal.returns-clause-effect
 returns-clause-effect g c =

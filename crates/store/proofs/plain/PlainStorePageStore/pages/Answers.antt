@@ -1,6 +1,6 @@
 use Rattle.std.proofs.Common.{sym}
-use Rattle.store.specs.SizedPages.{pages_length}
+use Rattle.store.proofs.Pages.{pages_length, pages_sized}
 use Rattle.store.proofs.plain.PlainStorePageStore.pages.Goals as goal
 
 pub returns : goal.returns
-returns c = sym (pages_length _)
+returns c = record { count = sym (pages_length _); sized = pages_sized _ c.args.self.now.whole }
