@@ -45,7 +45,7 @@ fn lay_frames(heap: Global, count: usize) -> Result<Vec<Frame>, AllocError>
 
 impl<S: PageStore, R: TopRule + Drop> Pager<S, R> {
     // A pager over `below` with `slots` slots in its top and at most `bottom` pages in its bottom, which it fills as pages are used.
-    // It holds no page yet and has called nothing below. A refusal gives the store back as it was.
+    // It holds no page yet, and has fetched and saved nothing below. A refusal gives the store back as it was.
     pub fn open(
         heap: Global,
         below: S,

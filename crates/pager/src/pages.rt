@@ -10,6 +10,7 @@ use store::{PageStore, StoreRefusal, Tallies};
 impl<S: PageStore, R: TopRule> PageStore for Pager<S, R> {
     ghost meaning = { λ p. pager_meaning S.PageStore.meaning p.works p.tallies };
 
+    // It speaks of the store below by what the bounds give, so it is no invariant of the type, which has no bounds.
     ghost opened = { λ p. Ready S.PageStore.opened S.PageStore.meaning R.TopRule.told p };
 
     fn pages(&self) -> usize {

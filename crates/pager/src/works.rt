@@ -14,9 +14,10 @@ pub(crate) struct UseCounts {
     pub(crate) evictions: u32,
 }
 
-// A store below with the frames that hold some of its pages. A use moves frames and bytes in several steps; what is true of a
-// pager is true between uses, so that each step asks for it, and for a page below the count, and says which frame has the page.
-// A step asks for it truncated: it needs no model by name, and says of each that is shown how it goes on.
+// A store below with the frames that hold some of its pages. A use moves frames and bytes in several steps; that the works are
+// booked is true between uses, so that each step asks for it, and for a page below the count, and says which frame has the page.
+// A step asks for it truncated: it needs no model by name, and says of each that is shown how it goes on. Where it calls the
+// store below it asks that this is open, and hands that on.
 #[derive(Drop)]
 pub(crate) struct Works<S, R> {
     pub(crate) below: S,

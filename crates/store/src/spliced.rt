@@ -66,6 +66,7 @@ impl<F: PageStore, S: PageStore> SplicedStore<F, S> {
 impl<F: PageStore, S: PageStore> PageStore for SplicedStore<F, S> {
     ghost meaning = { λ s. spliced (F.PageStore.meaning s.first) (S.PageStore.meaning s.second) s.tallies };
 
+    // It speaks of the parts by what the bounds give, so it is no invariant of the type, which has no bounds.
     ghost opened = { λ s. Joined (F.PageStore.opened s.first) (S.PageStore.opened s.second) (F.PageStore.meaning s.first) (S.PageStore.meaning s.second) };
 
     fn pages(&self) -> usize {
